@@ -1,0 +1,6 @@
+-- What a list of files is seen as: the files, and the room that was taken for them.
+use Rattle.std.specs.Prelude.{ℕ, List}
+
+pub record Roomy : Type 0 where
+  pub files : List (List ℕ)
+  pub room : ℕ

@@ -1,0 +1,166 @@
+//! Lists with a limit: bytes of a file, identifiers and files that one message names.
+
+ghost use Rattle.std.specs.Prelude.{◌≡◌, ◌<◌, ◌≤◌, ◌++◌, ◌∷◌, [], ◌↔◌, IsTrue, length, IfOk, MatchResult, Err};
+ghost use Rattle.std.specs.Bool.{OnTrue, OnFalse};
+
+use crate::file::FileId;
+use crate::id::Id;
+use crate::memory::OutOfMemory;
+use std::alloc::Global;
+use std::marker::Model;
+
+/// The bytes of a file, at most 4,096.
+#[derive(Drop)]
+pub struct Bytes {
+    items: Vec<u8>,
+}
+
+impl Model for Bytes {
+    ghost use Rattle.std.specs.Prelude.{ℕ, List, length, ◌≤◌};
+
+    ghost Value = { List ℕ };
+
+    ghost view = { λ a. a.items.items };
+
+    ghost invariant = { λ a. length a.items.items ≤ 4096 };
+}
+
+/// Why bytes were not copied.
+#[derive(Clone, Copy, PartialEq, Eq, Debug)]
+pub enum BytesFault {
+    /// There are more than 4,096.
+    TooLong { found: usize },
+    /// Memory was refused.
+    OutOfMemory,
+}
+
+impl Bytes {
+    pub fn as_slice(&self) -> &[u8]
+        ensures value { result.now ≡ self.now }
+        ensures limit { length self.now ≤ 4096 }
+    {
+        &self.items
+    }
+
+    /// The same bytes in memory of their own.
+    pub fn copy(&self, alloc: Global) -> Result<Bytes, OutOfMemory>
+        ensures { IfOk result (λ bytes. bytes ≡ self.now) }
+    {
+        let items = self.items.as_slice().to_vec(alloc)?;
+        Ok(Bytes { items })
+    }
+}
+
+/// At most 17 identifiers, in an order that means something.
+#[derive(Drop)]
+pub struct Ids {
+    items: Vec<Id>,
+}
+
+impl Model for Ids {
+    ghost use Rattle.std.specs.Prelude.{ℕ, List, length, ◌≤◌, vec_capacity};
+
+    ghost Value = { List ℕ };
+
+    ghost view = { λ a. a.items.items };
+
+    ghost invariant = { λ a. (length a.items.items ≤ 17) × (17 ≤ vec_capacity a.items) };
+}
+
+impl Ids {
+    /// No identifier yet, and room for 17.
+    pub fn with_room(alloc: Global) -> Result<Ids, OutOfMemory>
+        ensures { IfOk result (λ ids. ids ≡ []) }
+    {
+        let items = Vec::with_capacity(alloc, 17)?;
+        Ok(Ids { items })
+    }
+
+    /// Adds an identifier at the end. It takes no memory, and answers false, with nothing changed, exactly where 17 are held.
+    pub fn push(&mut self, id: Id) -> bool
+        ensures answer { IsTrue result ↔ (length self.old < 17) }
+        ensures pushed { OnTrue result (self.new ≡ self.old ++ id ∷ []) }
+        ensures full { OnFalse result (self.new ≡ self.old) }
+    {
+        if self.items.len() == 17 {
+            return false;
+        }
+        self.items.push(id).is_ok()
+    }
+
+    pub fn as_slice(&self) -> &[Id]
+        ensures value { result.now ≡ self.now }
+        ensures limit { length self.now ≤ 17 }
+    {
+        &self.items
+    }
+
+    /// The same identifiers in memory of their own, with room for 17.
+    pub fn copy(&self, alloc: Global) -> Result<Ids, OutOfMemory>
+        ensures { IfOk result (λ ids. ids ≡ self.now) }
+    {
+        let mut items = Vec::with_capacity(alloc, 17)?;
+        items.extend_from_slice(self.items.as_slice())?;
+        Ok(Ids { items })
+    }
+}
+
+/// Identifiers of files, in an order that means something, and the room that was taken for them.
+#[derive(Drop)]
+pub struct FileIds {
+    items: Vec<FileId>,
+    room: usize,
+}
+
+impl Model for FileIds {
+    ghost use Rattle.std.specs.Prelude.{length, ◌≤◌, vec_capacity};
+    ghost use Rattle.ring_math.specs.Roomy.{Roomy};
+
+    ghost Value = { Roomy };
+
+    ghost view = { λ a. record { files = a.items.items; room = a.room } };
+
+    ghost invariant = { λ a. (length a.items.items ≤ a.room) × (a.room ≤ 4096) × (a.room ≤ vec_capacity a.items) };
+}
+
+impl FileIds {
+    /// No file yet, and room for so many.
+    pub fn with_room(alloc: Global, room: usize) -> Result<FileIds, OutOfMemory>
+        requires { room ≤ 4096 }
+        ensures { IfOk result (λ ids. ids ≡ record { files = []; room = room }) }
+    {
+        let items = Vec::with_capacity(alloc, room)?;
+        Ok(FileIds { items, room })
+    }
+
+    /// Adds a file at the end. It takes no memory, and answers false, with nothing changed, exactly where the room is used.
+    pub fn push(&mut self, file: FileId) -> bool
+        ensures answer { IsTrue result ↔ (length self.old.files < self.old.room) }
+        ensures pushed { OnTrue result (self.new ≡ record self.old { files = self.old.files ++ file ∷ [] }) }
+        ensures full { OnFalse result (self.new ≡ self.old) }
+    {
+        if self.items.len() == self.room {
+            return false;
+        }
+        self.items.push(file).is_ok()
+    }
+
+    pub fn as_slice(&self) -> &[FileId]
+        ensures value { result.now ≡ self.now.files }
+        ensures limit { (length self.now.files ≤ self.now.room) × (self.now.room ≤ 4096) }
+    {
+        &self.items
+    }
+
+    /// The same files in memory of their own, with the same room.
+    pub fn copy(&self, alloc: Global) -> Result<FileIds, OutOfMemory>
+        ensures { IfOk result (λ ids. ids ≡ self.now) }
+    {
+        let mut items = Vec::with_capacity(alloc, self.room)?;
+        items.extend_from_slice(self.items.as_slice())?;
+        Ok(FileIds {
+            items,
+            room: self.room,
+        })
+    }
+}
