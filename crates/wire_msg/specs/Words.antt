@@ -1,0 +1,75 @@
+-- The messages as rules, frames and records see them: those of the code, but for the room of a list of files.
+use Rattle.std.specs.Prelude.{ℕ, List}
+use Rattle.wire_msg.specs.declared.reply.Reply.{Reply}
+use Rattle.wire_msg.specs.declared.reply.Why.{Why}
+use Rattle.wire_msg.specs.declared.message.Message.{Message as CodeMessage}
+use Rattle.wire_msg.specs.declared.message.Message.TheVariants as code
+use Rattle.wire_msg.specs.declared.message.Outgoing.{Outgoing}
+use Rattle.wire_msg.specs.declared.message.Envelope.{Envelope as CodeEnvelope}
+
+pub data Message : Type 0 where
+  Lookup : (origin number key hops : ℕ) → Message
+  LookupReply : (number : ℕ) (reply : Reply) → Message
+  Insert : (origin number hops : ℕ) (file : List ℕ) (copies : ℕ) (bytes : List ℕ) → Message
+  InsertReply : (number : ℕ) (reply : Reply) → Message
+  Fetch : (origin number hops : ℕ) (file : List ℕ) → Message
+  FetchReply : (number : ℕ) (reply : Reply) → Message
+  JoinRequest : (joiner attempt hops : ℕ) → Message
+  JoinReply : (attempt : ℕ) (members : List ℕ) → Message
+  JoinRefuse : (attempt : ℕ) (why : Why) → Message
+  Probe : (attempt : ℕ) → Message
+  ProbeReply : (attempt : ℕ) (members : List ℕ) → Message
+  LeaseRequest : (attempt left right : ℕ) → Message
+  Grant : (attempt : ℕ) (manifest tombs : List (List ℕ)) → Message
+  Deny : (attempt : ℕ) (why : Why) → Message
+  Handover : (file bytes : List ℕ) → Message
+  Release : (attempt : ℕ) → Message
+  Confirm : (attempt : ℕ) → Message
+  Announce : Message
+  Replicate : (origin number : ℕ) (file bytes : List ℕ) → Message
+  ReplicaAck : (origin number : ℕ) (file : List ℕ) → Message
+  Reclaim : (origin number hops : ℕ) (file : List ℕ) → Message
+  ReclaimReply : (number : ℕ) (reply : Reply) → Message
+
+-- without the room of its lists of files
+abbrev pub plain : CodeMessage → Message
+plain (code.Lookup origin number key hops) = Lookup origin number key hops
+plain (code.LookupReply number reply) = LookupReply number reply
+plain (code.Insert origin number hops file copies bytes) = Insert origin number hops file copies bytes
+plain (code.InsertReply number reply) = InsertReply number reply
+plain (code.Fetch origin number hops file) = Fetch origin number hops file
+plain (code.FetchReply number reply) = FetchReply number reply
+plain (code.JoinRequest joiner attempt hops) = JoinRequest joiner attempt hops
+plain (code.JoinReply attempt members) = JoinReply attempt members
+plain (code.JoinRefuse attempt why) = JoinRefuse attempt why
+plain (code.Probe attempt) = Probe attempt
+plain (code.ProbeReply attempt members) = ProbeReply attempt members
+plain (code.LeaseRequest attempt left right) = LeaseRequest attempt left right
+plain (code.Grant attempt manifest tombs) = Grant attempt manifest.files tombs.files
+plain (code.Deny attempt why) = Deny attempt why
+plain (code.Handover file bytes) = Handover file bytes
+plain (code.Release attempt) = Release attempt
+plain (code.Confirm attempt) = Confirm attempt
+plain code.Announce = Announce
+plain (code.Replicate origin number file bytes) = Replicate origin number file bytes
+plain (code.ReplicaAck origin number file) = ReplicaAck origin number file
+plain (code.Reclaim origin number hops file) = Reclaim origin number hops file
+plain (code.ReclaimReply number reply) = ReclaimReply number reply
+
+-- a message to a node
+pub record Sent : Type 0 where
+  pub receiver : ℕ
+  pub message : Message
+
+abbrev pub plain_sent : Outgoing → Sent
+plain_sent o = record { receiver = o.receiver; message = plain o.message }
+
+-- a message on its way, with the stamp of the entry that sent it
+pub record Envelope : Type 0 where
+  pub sender : ℕ
+  pub receiver : ℕ
+  pub stamp : ℕ
+  pub message : Message
+
+abbrev pub plain_envelope : CodeEnvelope → Envelope
+plain_envelope e = record { sender = e.sender; receiver = e.receiver; stamp = e.stamp; message = plain e.message }

@@ -1,0 +1,16 @@
+//! The messages of the overlay, the commands that nodes are given, and what is noted of them.
+#![tactic(auto)]
+
+mod command;
+mod frame;
+mod lists;
+mod message;
+mod note;
+mod reply;
+
+pub use command::{Command, Copies};
+pub use frame::Frame;
+pub use lists::{Envelopes, Notes, Sends};
+pub use message::{Envelope, Message, Outgoing};
+pub use note::Note;
+pub use reply::{Answer, Own, Reply, Why};

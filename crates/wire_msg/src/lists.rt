@@ -1,0 +1,127 @@
+//! Lists of messages and notes, in the order written.
+
+ghost use Rattle.std.specs.Prelude.{◌≡◌, ◌++◌, ◌∷◌, [], map, OnOk, OnErr};
+ghost use Rattle.wire_msg.specs.Words.{plain_sent, plain_envelope};
+
+use crate::message::{Envelope, Outgoing};
+use crate::note::Note;
+use ring_math::OutOfMemory;
+use std::alloc::Global;
+use std::marker::Model;
+
+/// What a step sends.
+#[derive(Drop)]
+pub struct Sends {
+    items: Vec<Outgoing>,
+}
+
+impl Model for Sends {
+    ghost use Rattle.std.specs.Prelude.{List, map};
+    ghost use Rattle.wire_msg.specs.Words.{Sent, plain_sent};
+
+    ghost Value = { List Sent };
+
+    ghost view = { λ a. map plain_sent a.items.items };
+}
+
+impl Sends {
+    pub fn new(alloc: Global) -> Sends
+        ensures { result ≡ [] }
+    {
+        Sends {
+            items: Vec::new(alloc),
+        }
+    }
+
+    pub fn as_slice(&self) -> &[Outgoing]
+        ensures { map plain_sent result.now ≡ self.now }
+    {
+        &self.items
+    }
+
+    pub fn push(&mut self, item: Outgoing) -> Result<(), OutOfMemory>
+        ensures ok { OnOk result (self.new ≡ self.old ++ plain_sent item ∷ []) }
+        ensures err { OnErr result (self.new ≡ self.old) }
+    {
+        self.items.push(item)?;
+        Ok(())
+    }
+}
+
+/// What a step notes.
+#[derive(Drop)]
+pub struct Notes {
+    items: Vec<Note>,
+}
+
+impl Model for Notes {
+    ghost use Rattle.std.specs.Prelude.{List};
+    ghost use Rattle.wire_msg.specs.declared.note.Note.{Note};
+
+    ghost Value = { List Note };
+
+    ghost view = { λ a. a.items.items };
+}
+
+impl Notes {
+    pub fn new(alloc: Global) -> Notes
+        ensures { result ≡ [] }
+    {
+        Notes {
+            items: Vec::new(alloc),
+        }
+    }
+
+    pub fn as_slice(&self) -> &[Note]
+        ensures { result.now ≡ self.now }
+    {
+        &self.items
+    }
+
+    pub fn push(&mut self, item: Note) -> Result<(), OutOfMemory>
+        ensures ok { OnOk result (self.new ≡ self.old ++ item ∷ []) }
+        ensures err { OnErr result (self.new ≡ self.old) }
+    {
+        self.items.push(item)?;
+        Ok(())
+    }
+}
+
+/// What an entry of a record sent.
+#[derive(Drop)]
+pub struct Envelopes {
+    items: Vec<Envelope>,
+}
+
+impl Model for Envelopes {
+    ghost use Rattle.std.specs.Prelude.{List, map};
+    ghost use Rattle.wire_msg.specs.Words.{Envelope, plain_envelope};
+
+    ghost Value = { List Envelope };
+
+    ghost view = { λ a. map plain_envelope a.items.items };
+}
+
+impl Envelopes {
+    pub fn new(alloc: Global) -> Envelopes
+        ensures { result ≡ [] }
+    {
+        Envelopes {
+            items: Vec::new(alloc),
+        }
+    }
+
+    pub fn as_slice(&self) -> &[Envelope]
+        ensures { map plain_envelope result.now ≡ self.now }
+    {
+        &self.items
+    }
+
+    pub fn push(&mut self, item: Envelope) -> Result<(), OutOfMemory>
+        ensures ok { OnOk result (self.new ≡ self.old ++ plain_envelope item ∷ []) }
+        ensures err { OnErr result (self.new ≡ self.old) }
+    {
+        self.items.push(item)?;
+        Ok(())
+    }
+}
