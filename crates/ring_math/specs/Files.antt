@@ -1,5 +1,6 @@
 -- The files of a node: entries by rising file identifier, each bytes or a tombstone.
-use Rattle.std.specs.Prelude.{ℕ, Bool, true, false, nat_lt, if◌then◌else◌, Option, Some, None, List, [], ◌∷◌, length}
+use Rattle.std.specs.Prelude.{ℕ, Bool, true, false, nat_lt, if◌then◌else◌, Option, Some, None, List, [], ◌∷◌, length, ◌&&◌}
+use Rattle.std.specs.List.{list_all}
 use Rattle.ring_math.specs.declared.file.Held.{Held}
 use Rattle.ring_math.specs.Bytewise.{same_bytes, is_before}
 
@@ -49,3 +50,7 @@ has_entry files file = is_entry (slot_of files file)
 
 abbrev pub has_tomb : List Held → List ℕ → Bool
 has_tomb files file = is_tomb (slot_of files file)
+
+-- each file of the manifest has an entry, and each of the tombs is a tombstone
+abbrev pub has_lists : List Held → List (List ℕ) → List (List ℕ) → Bool
+has_lists files manifest tombs = list_all (has_entry files) manifest && list_all (has_tomb files) tombs

@@ -1,0 +1,16 @@
+pub mod State
+pub mod Outcome
+pub mod Routed
+pub mod Roots
+pub mod Replicas
+pub mod Joining
+pub mod ReadyTest
+pub mod Gates
+pub mod Gatekeeper
+pub mod Step
+pub mod Record
+pub mod Played
+pub mod Ready
+pub mod Table
+pub mod Rightly
+pub mod Laws

@@ -1,0 +1,11 @@
+//! The rules of the overlay: what a node's step does, which histories there can be, and what is right in one.
+//! The rules are definitions, in `specs/`. Here are the types that they share with the code.
+#![tactic(auto)]
+
+mod entry;
+mod gate;
+mod request;
+
+pub use entry::{Entries, Entry, Event, Record};
+pub use gate::{Gate, Verdict};
+pub use request::{Asked, Pending, Way};
