@@ -35,7 +35,10 @@ pub enum BytesFault {
 }
 
 impl From<AllocError> for BytesFault {
-    ghost from_gives = { λ _ fault. fault ≡ BytesFault.OutOfMemory };
+    ghost use Rattle.std.specs.Prelude.{◌≡◌};
+    ghost use Rattle.ring_math.specs.declared.lists.BytesFault.TheVariants.{OutOfMemory};
+
+    ghost from_gives = { λ _ fault. fault ≡ OutOfMemory };
 
     fn from(_error: AllocError) -> BytesFault {
         BytesFault::OutOfMemory
