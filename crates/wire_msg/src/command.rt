@@ -1,8 +1,9 @@
 //! What a node is told to do.
 
-ghost use Rattle.std.specs.Prelude.{◌≡◌, ◌<◌, ◌≤◌, ◌⊎◌, MatchOption};
+ghost use Rattle.std.specs.Prelude.{◌≡◌, ◌<◌, ◌≤◌, ◌⊎◌, IfOk, MatchOption};
 
-use ring_math::{Bytes, FileId, Id};
+use ring_math::{Bytes, FileId, Id, OutOfMemory};
+use std::alloc::Global;
 use std::marker::Model;
 
 /// How many copies an insert asks for, 1 to 9.
@@ -68,4 +69,28 @@ pub enum Command {
     Reclaim {
         file: FileId,
     },
+}
+
+impl Command {
+    /// The same command in memory of its own.
+    pub fn copy(&self, alloc: Global) -> Result<Command, OutOfMemory>
+        ensures { IfOk result (λ command. command ≡ self.now) }
+    {
+        Ok(match self {
+            Command::Join { via } => Command::Join { via: *via },
+            Command::Lookup { key } => Command::Lookup { key: *key },
+            Command::Insert {
+                file,
+                copies,
+                bytes,
+            } => Command::Insert {
+                file: *file,
+                copies: *copies,
+                bytes: bytes.copy(alloc)?,
+            },
+            Command::Fetch { file } => Command::Fetch { file: *file },
+            Command::GiveUp => Command::GiveUp,
+            Command::Reclaim { file } => Command::Reclaim { file: *file },
+        })
+    }
 }

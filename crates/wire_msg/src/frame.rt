@@ -51,3 +51,12 @@ impl Frame {
         Ok(())
     }
 }
+
+/// The bytes that were written into a vector. It takes no memory.
+impl From<Vec<u8>> for Frame {
+    ghost from_gives = { λ bytes frame. frame ≡ bytes.items };
+
+    fn from(bytes: Vec<u8>) -> Frame {
+        Frame { items: bytes }
+    }
+}

@@ -14,3 +14,6 @@ pub use lists::{Envelopes, Notes, Sends};
 pub use message::{Envelope, Message, Outgoing};
 pub use note::Note;
 pub use reply::{Answer, Own, Reply, Why};
+
+#[cfg(test)]
+mod tests;

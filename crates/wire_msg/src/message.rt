@@ -1,8 +1,11 @@
 //! What nodes send to one another.
 
+ghost use Rattle.std.specs.Prelude.{◌≡◌, IfOk};
+
 use crate::command::Copies;
 use crate::reply::{Reply, Why};
-use ring_math::{Bytes, FileId, FileIds, Id, Ids};
+use ring_math::{Bytes, FileId, FileIds, Id, Ids, OutOfMemory};
+use std::alloc::Global;
 
 /// A message, of one of twenty-two kinds. Hops are 0 to 65,535, attempts those of the joiner that a join belongs to.
 #[derive(Drop)]
@@ -129,4 +132,164 @@ pub struct Envelope {
     /// The stamp of the entry that sent it.
     pub stamp: u64,
     pub message: Message,
+}
+
+impl Message {
+    /// The same message in memory of its own.
+    pub fn copy(&self, alloc: Global) -> Result<Message, OutOfMemory>
+        ensures { IfOk result (λ message. message ≡ self.now) }
+    {
+        Ok(match self {
+            Message::Lookup {
+                origin,
+                number,
+                key,
+                hops,
+            } => Message::Lookup {
+                origin: *origin,
+                number: *number,
+                key: *key,
+                hops: *hops,
+            },
+            Message::LookupReply { number, reply } => Message::LookupReply {
+                number: *number,
+                reply: reply.copy(alloc)?,
+            },
+            Message::Insert {
+                origin,
+                number,
+                hops,
+                file,
+                copies,
+                bytes,
+            } => Message::Insert {
+                origin: *origin,
+                number: *number,
+                hops: *hops,
+                file: *file,
+                copies: *copies,
+                bytes: bytes.copy(alloc)?,
+            },
+            Message::InsertReply { number, reply } => Message::InsertReply {
+                number: *number,
+                reply: reply.copy(alloc)?,
+            },
+            Message::Fetch {
+                origin,
+                number,
+                hops,
+                file,
+            } => Message::Fetch {
+                origin: *origin,
+                number: *number,
+                hops: *hops,
+                file: *file,
+            },
+            Message::FetchReply { number, reply } => Message::FetchReply {
+                number: *number,
+                reply: reply.copy(alloc)?,
+            },
+            Message::JoinRequest {
+                joiner,
+                attempt,
+                hops,
+            } => Message::JoinRequest {
+                joiner: *joiner,
+                attempt: *attempt,
+                hops: *hops,
+            },
+            Message::JoinReply { attempt, members } => Message::JoinReply {
+                attempt: *attempt,
+                members: members.copy(alloc)?,
+            },
+            Message::JoinRefuse { attempt, why } => Message::JoinRefuse {
+                attempt: *attempt,
+                why: *why,
+            },
+            Message::Probe { attempt } => Message::Probe { attempt: *attempt },
+            Message::ProbeReply { attempt, members } => Message::ProbeReply {
+                attempt: *attempt,
+                members: members.copy(alloc)?,
+            },
+            Message::LeaseRequest {
+                attempt,
+                left,
+                right,
+            } => Message::LeaseRequest {
+                attempt: *attempt,
+                left: *left,
+                right: *right,
+            },
+            Message::Grant {
+                attempt,
+                manifest,
+                tombs,
+            } => Message::Grant {
+                attempt: *attempt,
+                manifest: manifest.copy(alloc)?,
+                tombs: tombs.copy(alloc)?,
+            },
+            Message::Deny { attempt, why } => Message::Deny {
+                attempt: *attempt,
+                why: *why,
+            },
+            Message::Handover { file, bytes } => Message::Handover {
+                file: *file,
+                bytes: bytes.copy(alloc)?,
+            },
+            Message::Release { attempt } => Message::Release { attempt: *attempt },
+            Message::Confirm { attempt } => Message::Confirm { attempt: *attempt },
+            Message::Announce => Message::Announce,
+            Message::Replicate {
+                origin,
+                number,
+                file,
+                bytes,
+            } => Message::Replicate {
+                origin: *origin,
+                number: *number,
+                file: *file,
+                bytes: bytes.copy(alloc)?,
+            },
+            Message::ReplicaAck {
+                origin,
+                number,
+                file,
+            } => Message::ReplicaAck {
+                origin: *origin,
+                number: *number,
+                file: *file,
+            },
+            Message::Reclaim {
+                origin,
+                number,
+                hops,
+                file,
+            } => Message::Reclaim {
+                origin: *origin,
+                number: *number,
+                hops: *hops,
+                file: *file,
+            },
+            Message::ReclaimReply { number, reply } => Message::ReclaimReply {
+                number: *number,
+                reply: reply.copy(alloc)?,
+            },
+        })
+    }
+}
+
+impl Envelope {
+    /// The same envelope in memory of its own.
+    pub fn copy(&self, alloc: Global) -> Result<Envelope, OutOfMemory>
+        ensures { IfOk result (λ envelope. envelope ≡ self.now) }
+    {
+        let message = self.message.copy(alloc)?;
+        Ok(Envelope {
+            sender: self.sender,
+            receiver: self.receiver,
+            stamp: self.stamp,
+            message,
+        })
+    }
 }

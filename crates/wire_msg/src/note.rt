@@ -1,7 +1,10 @@
 //! What a node notes of a step.
 
+ghost use Rattle.std.specs.Prelude.{◌≡◌, IfOk};
+
 use crate::reply::{Answer, Reply};
-use ring_math::{Bytes, FileId, Id};
+use ring_math::{Bytes, FileId, Id, OutOfMemory};
+use std::alloc::Global;
 
 #[derive(Drop)]
 pub enum Note {
@@ -32,4 +35,43 @@ pub enum Note {
     Reclaimed {
         file: FileId,
     },
+}
+
+impl Note {
+    /// The same note in memory of its own.
+    pub fn copy(&self, alloc: Global) -> Result<Note, OutOfMemory>
+        ensures { IfOk result (λ note. note ≡ self.now) }
+    {
+        Ok(match self {
+            Note::Accepted { file, bytes } => Note::Accepted {
+                file: *file,
+                bytes: bytes.copy(alloc)?,
+            },
+            Note::Delivered {
+                origin,
+                number,
+                key,
+                hops,
+            } => Note::Delivered {
+                origin: *origin,
+                number: *number,
+                key: *key,
+                hops: *hops,
+            },
+            Note::Answered {
+                origin,
+                number,
+                reply,
+            } => Note::Answered {
+                origin: *origin,
+                number: *number,
+                reply: reply.copy(alloc)?,
+            },
+            Note::Closed { number, answer } => Note::Closed {
+                number: *number,
+                answer: answer.copy(alloc)?,
+            },
+            Note::Reclaimed { file } => Note::Reclaimed { file: *file },
+        })
+    }
 }

@@ -1,6 +1,9 @@
 //! Answers to requests and to commands.
 
-use ring_math::{Bytes, Id, Ids};
+ghost use Rattle.std.specs.Prelude.{◌≡◌, IfOk};
+
+use ring_math::{Bytes, Id, Ids, OutOfMemory};
+use std::alloc::Global;
 
 /// The answer to a lookup, an insert, a fetch or a reclaim.
 #[derive(Drop)]
@@ -24,6 +27,41 @@ pub enum Reply {
     Gone { node: Id },
     /// The file is reclaimed, now or before.
     Reclaimed { node: Id },
+}
+
+impl Reply {
+    /// The same reply in memory of its own.
+    pub fn copy(&self, alloc: Global) -> Result<Reply, OutOfMemory>
+        ensures { IfOk result (λ reply. reply ≡ self.now) }
+    {
+        Ok(match self {
+            Reply::Delivered { node, hops } => Reply::Delivered {
+                node: *node,
+                hops: *hops,
+            },
+            Reply::Stored { holders } => Reply::Stored {
+                holders: holders.copy(alloc)?,
+            },
+            Reply::Found { node, bytes } => Reply::Found {
+                node: *node,
+                bytes: bytes.copy(alloc)?,
+            },
+            Reply::NotFound { node } => Reply::NotFound { node: *node },
+            Reply::Collision { node } => Reply::Collision { node: *node },
+            Reply::TooFew { node, known } => Reply::TooFew {
+                node: *node,
+                known: *known,
+            },
+            Reply::Busy { node, joiner } => Reply::Busy {
+                node: *node,
+                joiner: *joiner,
+            },
+            Reply::NotReady { node } => Reply::NotReady { node: *node },
+            Reply::Full { node } => Reply::Full { node: *node },
+            Reply::Gone { node } => Reply::Gone { node: *node },
+            Reply::Reclaimed { node } => Reply::Reclaimed { node: *node },
+        })
+    }
 }
 
 /// Why a join was refused.
@@ -56,4 +94,29 @@ pub enum Answer {
     Stopped { node: Id, own: Own },
     GaveUp,
     NothingToGiveUp,
+}
+
+impl Answer {
+    /// The same answer in memory of its own.
+    pub fn copy(&self, alloc: Global) -> Result<Answer, OutOfMemory>
+        ensures { IfOk result (λ answer. answer ≡ self.now) }
+    {
+        Ok(match self {
+            Answer::Reply(reply) => Answer::Reply(reply.copy(alloc)?),
+            Answer::Joined { left, right } => Answer::Joined {
+                left: *left,
+                right: *right,
+            },
+            Answer::Denied { node, why } => Answer::Denied {
+                node: *node,
+                why: *why,
+            },
+            Answer::Stopped { node, own } => Answer::Stopped {
+                node: *node,
+                own: *own,
+            },
+            Answer::GaveUp => Answer::GaveUp,
+            Answer::NothingToGiveUp => Answer::NothingToGiveUp,
+        })
+    }
 }
