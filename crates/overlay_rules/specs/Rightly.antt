@@ -35,15 +35,6 @@ pub record RightlyDelivered (g : Setting) (w : World) (x o n key hops : ℕ) : T
   pub commanded : WasCommanded w o n (command.Lookup key)
   pub few : hops ≤ farther g w key x
 
--- a lookup, insert, fetch or reclaim, and its key
-abbrev pub IsRequest : NodeCommand → ℕ → Type 0
-IsRequest (command.Lookup key) k = k ≡ key
-IsRequest (command.Insert f copies b) k = k ≡ key_of f
-IsRequest (command.Fetch f) k = k ≡ key_of f
-IsRequest (command.Reclaim f) k = k ≡ key_of f
-IsRequest (command.Join via) k = ⊥
-IsRequest command.GiveUp k = ⊥
-
 -- the node is ready, one of its gates is j's, and the key is in its gap of j
 abbrev pub ShowsBusy : State → ℕ → ℕ → Type 0
 ShowsBusy s j key =
@@ -69,29 +60,76 @@ pub record RightlyFull (w : World) (x : ℕ) (f : List ℕ) : Type 0 where
   pub none : slot_of (w.states x).files f ≡ None
   pub nowhere : table w.past f ≡ Nowhere
 
--- the reply to command n of o, whose key is k: it was noted by entry e at x, w is the world after it, and es the record
-abbrev pub RightReply : Setting → List Entry → World → Entry → ℕ → ℕ → ℕ → ℕ → NodeCommand → Reply → Type 0
-RightReply g es w e x o n k (command.Lookup key) (reply.Delivered y hops) = (y ≡ x) × Contains e.notes (note.Delivered o n key hops)
-RightReply g es w e x o n k (command.Fetch f) (reply.Found y b) = (y ≡ x) × (table w.past f ≡ Keeps b)
-RightReply g es w e x o n k (command.Fetch f) (reply.NotFound y) = (y ≡ x) × (table w.past f ≡ Nowhere)
-RightReply g es w e x o n k (command.Reclaim f) (reply.NotFound y) = (y ≡ x) × (table w.past f ≡ Nowhere)
-RightReply g es w e x o n k (command.Insert f copies b) (reply.Collision y) =
+-- the reply of x to a lookup of the key, command n of o: entry e has it, and w is the world after that
+abbrev pub RightLookupReply : World → Entry → ℕ → ℕ → ℕ → ℕ → Reply → Type 0
+RightLookupReply w e x o n key (reply.Delivered y hops) = (y ≡ x) × Contains e.notes (note.Delivered o n key hops)
+RightLookupReply w e x o n key (reply.Busy y j) = (y ≡ x) × ShowsBusy (w.states x) j key
+RightLookupReply w e x o n key (reply.NotReady y) = (y ≡ x) × (is_ready (w.states x).phase ≡ false)
+RightLookupReply w e x o n key (reply.Stored holders) = ⊥
+RightLookupReply w e x o n key (reply.Found y b) = ⊥
+RightLookupReply w e x o n key (reply.NotFound y) = ⊥
+RightLookupReply w e x o n key (reply.Collision y) = ⊥
+RightLookupReply w e x o n key (reply.TooFew y m) = ⊥
+RightLookupReply w e x o n key (reply.Full y) = ⊥
+RightLookupReply w e x o n key (reply.Gone y) = ⊥
+RightLookupReply w e x o n key (reply.Reclaimed y) = ⊥
+
+-- the reply of x to an insert of bytes b for f with so many copies; es is the whole record
+abbrev pub RightInsertReply : Setting → List Entry → World → ℕ → List ℕ → ℕ → List ℕ → Reply → Type 0
+RightInsertReply g es w x f copies b (reply.Stored holders) = RightlyStored g es w f copies b holders
+RightInsertReply g es w x f copies b (reply.Collision y) =
     (y ≡ x) × ((held : List ℕ) × ((table w.past f ≡ Keeps held) × (held ≢ b)))
-RightReply g es w e x o n k (command.Insert f copies b) (reply.Gone y) = (y ≡ x) × (table w.past f ≡ Gone)
-RightReply g es w e x o n k (command.Fetch f) (reply.Gone y) = (y ≡ x) × (table w.past f ≡ Gone)
-RightReply g es w e x o n k (command.Reclaim f) (reply.Reclaimed y) = (y ≡ x) × (table w.past f ≡ Gone)
-RightReply g es w e x o n k (command.Insert f copies b) (reply.Stored holders) = RightlyStored g es w f copies b holders
-RightReply g es w e x o n k (command.Insert f copies b) (reply.TooFew y m) =
+RightInsertReply g es w x f copies b (reply.Gone y) = (y ≡ x) × (table w.past f ≡ Gone)
+RightInsertReply g es w x f copies b (reply.TooFew y m) =
     (y ≡ x) × (length (leaves x (w.states x).known) ≡ m) × (m < copies - 1)
-RightReply g es w e x o n k (command.Insert f copies b) (reply.Full y) = (y ≡ x) × RightlyFull w x f
-RightReply g es w e x o n k c (reply.Busy y j) = (y ≡ x) × ShowsBusy (w.states x) j k
-RightReply g es w e x o n k c (reply.NotReady y) = (y ≡ x) × (is_ready (w.states x).phase ≡ false)
-RightReply g es w e x o n k c r = ⊥
+RightInsertReply g es w x f copies b (reply.Full y) = (y ≡ x) × RightlyFull w x f
+RightInsertReply g es w x f copies b (reply.Busy y j) = (y ≡ x) × ShowsBusy (w.states x) j (key_of f)
+RightInsertReply g es w x f copies b (reply.NotReady y) = (y ≡ x) × (is_ready (w.states x).phase ≡ false)
+RightInsertReply g es w x f copies b (reply.Delivered y hops) = ⊥
+RightInsertReply g es w x f copies b (reply.Found y found) = ⊥
+RightInsertReply g es w x f copies b (reply.NotFound y) = ⊥
+RightInsertReply g es w x f copies b (reply.Reclaimed y) = ⊥
+
+-- the reply of x to a fetch of f
+abbrev pub RightFetchReply : World → ℕ → List ℕ → Reply → Type 0
+RightFetchReply w x f (reply.Found y b) = (y ≡ x) × (table w.past f ≡ Keeps b)
+RightFetchReply w x f (reply.NotFound y) = (y ≡ x) × (table w.past f ≡ Nowhere)
+RightFetchReply w x f (reply.Gone y) = (y ≡ x) × (table w.past f ≡ Gone)
+RightFetchReply w x f (reply.Busy y j) = (y ≡ x) × ShowsBusy (w.states x) j (key_of f)
+RightFetchReply w x f (reply.NotReady y) = (y ≡ x) × (is_ready (w.states x).phase ≡ false)
+RightFetchReply w x f (reply.Delivered y hops) = ⊥
+RightFetchReply w x f (reply.Stored holders) = ⊥
+RightFetchReply w x f (reply.Collision y) = ⊥
+RightFetchReply w x f (reply.TooFew y m) = ⊥
+RightFetchReply w x f (reply.Full y) = ⊥
+RightFetchReply w x f (reply.Reclaimed y) = ⊥
+
+-- the reply of x to a reclaim of f
+abbrev pub RightReclaimReply : World → ℕ → List ℕ → Reply → Type 0
+RightReclaimReply w x f (reply.Reclaimed y) = (y ≡ x) × (table w.past f ≡ Gone)
+RightReclaimReply w x f (reply.NotFound y) = (y ≡ x) × (table w.past f ≡ Nowhere)
+RightReclaimReply w x f (reply.Busy y j) = (y ≡ x) × ShowsBusy (w.states x) j (key_of f)
+RightReclaimReply w x f (reply.NotReady y) = (y ≡ x) × (is_ready (w.states x).phase ≡ false)
+RightReclaimReply w x f (reply.Delivered y hops) = ⊥
+RightReclaimReply w x f (reply.Stored holders) = ⊥
+RightReclaimReply w x f (reply.Found y b) = ⊥
+RightReclaimReply w x f (reply.Collision y) = ⊥
+RightReclaimReply w x f (reply.TooFew y m) = ⊥
+RightReclaimReply w x f (reply.Full y) = ⊥
+RightReclaimReply w x f (reply.Gone y) = ⊥
+
+-- the reply of x to command n of o, by the command
+abbrev pub RightReply : Setting → List Entry → World → Entry → ℕ → ℕ → ℕ → NodeCommand → Reply → Type 0
+RightReply g es w e x o n (command.Lookup key) r = RightLookupReply w e x o n key r
+RightReply g es w e x o n (command.Insert f copies b) r = RightInsertReply g es w x f copies b r
+RightReply g es w e x o n (command.Fetch f) r = RightFetchReply w x f r
+RightReply g es w e x o n (command.Reclaim f) r = RightReclaimReply w x f r
+RightReply g es w e x o n (command.Join via) r = ⊥
+RightReply g es w e x o n command.GiveUp r = ⊥
 
 -- command n of o so far is a request, and the reply to it is right
 abbrev pub RightlyAnswered : Setting → List Entry → World → Entry → ℕ → ℕ → ℕ → Reply → Type 0
-RightlyAnswered g es w e x o n r =
-    (c : NodeCommand) × ((k : ℕ) × (WasCommanded w o n c × IsRequest c k × RightReply g es w e x o n k c r))
+RightlyAnswered g es w e x o n r = (c : NodeCommand) × (WasCommanded w o n c × RightReply g es w e x o n c r)
 
 -- why a node refuses a joiner, as its state shows
 abbrev pub ShowsWhy : State → Why → Type 0
@@ -125,9 +163,22 @@ pub record RightlyJoined (g : Setting) (before w : World) (x l r : ℕ) : Type 0
   pub left : IsPred (IsReadyIn g w) x l
   pub right : IsSucc (IsReadyIn g w) x r
 
+-- an earlier entry has the reply to command n of x
+abbrev pub WasAnswered : World → ℕ → ℕ → Reply → Type 0
+WasAnswered before x n r = (b : Entry) × (Contains before.past b × Contains b.notes (note.Answered x n r))
+
+-- command n of x was closed with a reply, and an earlier entry has it
+abbrev pub RightlyReplied : World → ℕ → ℕ → Answer → Type 0
+RightlyReplied before x n (answer.Reply r) = WasAnswered before x n r
+RightlyReplied before x n (answer.Joined l r) = ⊥
+RightlyReplied before x n (answer.Denied y reason) = ⊥
+RightlyReplied before x n (answer.Stopped y reason) = ⊥
+RightlyReplied before x n answer.GaveUp = ⊥
+RightlyReplied before x n answer.NothingToGiveUp = ⊥
+
 -- command n of x was closed rightly by entry e: `before` and w are the worlds before and after it
 abbrev pub RightlyClosed : Setting → List Entry → World → World → Entry → ℕ → ℕ → Answer → Type 0
-RightlyClosed g es before w e x n (answer.Reply r) = (b : Entry) × (Contains before.past b × Contains b.notes (note.Answered x n r))
+RightlyClosed g es before w e x n (answer.Reply r) = WasAnswered before x n r
 RightlyClosed g es before w e x n (answer.Joined l r) = WasJoin w x n × RightlyJoined g before w x l r
 RightlyClosed g es before w e x n (answer.Denied y reason) = WasJoin w x n × IsDenial g es e.event y reason
 RightlyClosed g es before w e x n (answer.Stopped y reason) =
@@ -144,11 +195,27 @@ RightNote g es before w e x (note.Closed n a) = RightlyClosed g es before w e x 
 RightNote g es before w e x (note.Accepted f b) = Unit {0}
 RightNote g es before w e x (note.Reclaimed f) = Unit {0}
 
--- the notes of every entry of these are right at its node; entries are counted from 0
-abbrev pub NotesAreRight : Setting → List Entry → Type 0
-NotesAreRight g es =
+-- each note of each entry is such: entries are counted from 0, and each note comes with its entry, the node, and the worlds before and after
+abbrev pub EachNote : Setting → (World → World → Entry → ℕ → Note → Type 0) → List Entry → Type 0
+EachNote g P es =
     (i : ℕ) (e : Entry) (at : Visit) (n : Note) → slice_get es i ≡ Some e → visit (sent_in (take i es)) e.event ≡ Some at →
-    Contains e.notes n → RightNote g es (world_after g es i) (world_after g es (i + 1)) e at.node n
+    Contains e.notes n → P (world_after g es i) (world_after g es (i + 1)) e at.node n
+
+-- every note is right
+abbrev pub NotesAreRight : Setting → List Entry → Type 0
+NotesAreRight g es = EachNote g (RightNote g es) es
+
+-- of a delivery, of the reply to a lookup, and of the closing of a lookup: it is right
+abbrev pub RightLookupNote : Setting → World → World → Entry → ℕ → Note → Type 0
+RightLookupNote g before w e x (note.Delivered o n key hops) = RightlyDelivered g w x o n key hops
+RightLookupNote g before w e x (note.Answered o n r) = (key : ℕ) → WasCommanded w o n (command.Lookup key) → RightLookupReply w e x o n key r
+RightLookupNote g before w e x (note.Closed n a) = (key : ℕ) → WasCommanded w x n (command.Lookup key) → RightlyReplied before x n a
+RightLookupNote g before w e x (note.Accepted f b) = Unit {0}
+RightLookupNote g before w e x (note.Reclaimed f) = Unit {0}
+
+-- every delivery is right, and every answer to a lookup
+abbrev pub LookupsAreRight : Setting → List Entry → Type 0
+LookupsAreRight g es = EachNote g (RightLookupNote g) es
 
 abbrev pub is_closing_of : ℕ → Note → Bool
 is_closing_of n (note.Closed m a) = m == n
