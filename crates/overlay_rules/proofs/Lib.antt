@@ -1,2 +1,4 @@
 pub mod Each
 pub mod Histories
+pub mod Seat
+pub mod SeatStep
