@@ -10,7 +10,7 @@ use Rattle.ring_math.specs.Files.{Slot, slot_of, with_slot, has_room}
 use Rattle.ring_math.specs.declared.file.Held.{Held}
 use Rattle.coverage.specs.declared.Hop.{Hop}
 use Rattle.coverage.specs.declared.Hop.TheVariants as hop
-use Rattle.coverage.specs.GapFiles.{Lists}
+use Rattle.coverage.specs.GapFiles.{Lists, lists_in_gap}
 use Rattle.wire_msg.specs.declared.command.Command.TheVariants as command
 use Rattle.wire_msg.specs.declared.note.Note.{Note}
 use Rattle.wire_msg.specs.declared.note.Note.TheVariants as note
@@ -35,9 +35,9 @@ use Rattle.overlay_rules.specs.Replicas.{holding, replicate_at, ack_taken, ack_o
 use Rattle.overlay_rules.specs.Joining.{join_in, give_up_in, refuse_in, probing, join_reply_in, is_unanswered, answered_by, unanswered, was_probed, probed_on, probe_reply_in, deny_in, kept_first, with_grant, older_grant, grant_in}
 use Rattle.overlay_rules.specs.ReadyTest.{has_all, ready_test_in}
 use Rattle.overlay_rules.specs.Gates.{verdict_unless, blocked_by, fits, is_again, holds_gate}
-use Rattle.overlay_rules.specs.Gatekeeper.{probe_in, handovers, with_handover, links_of, lease_by, lease_in, confirm_in}
+use Rattle.overlay_rules.specs.Gatekeeper.{probe_in, handovers, with_handover, granted, links_of, gated_reach, is_left_to, newly_gated, lease_by, lease_in, confirm_in}
 use Rattle.overlay_rules.specs.Step.{step, waits_for}
-use Rattle.overlay_rules.proofs.Each.{Each, Each-append}
+use Rattle.overlay_rules.proofs.Each.{Each, Each-append, Each-weaker}
 use Rattle.overlay_rules.proofs.Seat.{SameSeat, IsService, AllService, IsServiceNote, AllServiceNotes, Seat, serves, request_on, request_served, request_unready, request_busy, begins, not_begun, stops_asking, stops_probing, stops_leasing, idles, refused, probes, probes_on, leases, denied, grant_older, grant_settled, grant_kept, grant_readies, file_readies, probed, lease_unready, lease_again, lease_busy, lease_moved, lease_new, released, confirms, announced}
 
 -- ---- tests as facts
@@ -384,6 +384,23 @@ confirm_seat s from a (Waiting b) e = unmoved s _
 confirm_seat s from a (Asking b m) e = unmoved s _
 confirm_seat s from a (Probing b m ps) e = unmoved s _
 confirm_seat s from a (Leasing b m l r fl fr) e = unmoved s _
+
+-- what holds of the Grant and of each message of files holds of all that goes with it
+pub granted_sends : (P : Sent → Type 0) (from a : ℕ) (lists : Lists) (files : List Held) → P (sent from (Grant a lists.manifest lists.tombs)) →
+    ((x : Sent) → IsService x.message → P x) → Each P (granted from a lists files)
+granted_sends P from a lists files g f = (g, Each-weaker (λ x. IsService x.message) P (handovers from files lists.manifest) f (handovers_service from files lists.manifest))
+
+-- the lists of a new lease
+abbrev pub new_lists : State → ℕ → ℕ → ℕ → ℕ → ℕ → ℕ → Lists
+new_lists t x y from a l r = lists_in_gap (gated_reach t x y from a l r) from t.files
+
+pub newly_gated_sends : (P : Sent → Type 0) (t : State) (x y from a l r : ℕ) →
+    P (sent from (Grant a (new_lists t x y from a l r).manifest (new_lists t x y from a l r).tombs)) → ((m : Sent) → IsService m.message → P m) →
+    Each P (newly_gated t x y from a l r).sends
+newly_gated_sends P t x y from a l r g f =
+    Each-append P (granted from a (new_lists t x y from a l r) t.files) _ (granted_sends P from a (new_lists t x y from a l r) t.files g f)
+    (Each-weaker (λ m. IsService m.message) P _ f
+    (replied_each_sends _ (reply.Busy t.me from) (filter (is_left_to (gated_reach t x y from a l r) from) t.pending)))
 
 -- ---- every input
 
