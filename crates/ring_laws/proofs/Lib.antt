@@ -5,3 +5,6 @@ pub mod Learnt
 pub mod Knows
 pub mod Linked
 pub mod Messages
+pub mod Leases
+pub mod Grants
+pub mod Gates
