@@ -92,7 +92,7 @@ spared states gate from (LeaseRequest a l r) shows le unready =
 spared states gate from _ shows le unready = tt
 
 -- what holds of an input, of its message
-by_message : (g : Setting) (w : World) (P : Input → Type 0) → MessagesHold g w → ((n : ℕ) (c : NodeCommand) → P (Command n c)) → P Noise →
+pub by_message : (g : Setting) (w : World) (P : Input → Type 0) → MessagesHold g w → ((n : ℕ) (c : NodeCommand) → P (Command n c)) → P Noise →
     (v : Event) (x : ℕ) (i : Input) → Arrives w v x i → ((u : Envelope) (m : ℕ) → Holds g w.states u → slice_get (sent_in w.past) m ≡ Some u → u.receiver ≡ x → P (Comes u.sender u.message)) → P i
 by_message g w P h c n _ _ _ (commanded x k d f) p = c k d
 by_message g w P h c n _ _ _ (noised x) p = n
@@ -156,7 +156,7 @@ kept_lasts g w e x i h t y (Ready a l r) le u k = tt
 
 -- ---- a Grant brings the lease of the side that its sender is
 
-leased_between : (a l r n x y : ℕ) (fl fr : Option Lists) → HasLeased a l r (Leasing a n x y fl fr) → (l ≡ x) × (r ≡ y)
+pub leased_between : (a l r n x y : ℕ) (fl fr : Option Lists) → HasLeased a l r (Leasing a n x y fl fr) → (l ≡ x) × (r ≡ y)
 leased_between a l r n x y fl fr (inl h) = (h.1, h.2)
 leased_between a l r n x y fl fr (inr lt) = absurd (omega arith)
 

@@ -8,3 +8,5 @@ pub mod Messages
 pub mod Leases
 pub mod Grants
 pub mod Gates
+pub mod Sides
+pub mod Ring
