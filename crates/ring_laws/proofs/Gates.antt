@@ -85,10 +85,10 @@ spared states gate from (Release a) shows le unready =
     false_from_ne_true _ (λ e. let p = is_of-parts from a gate e in let at = at_joiner states gate from p.0 le in let same = p.1 in absurd (omega arith))
 spared states gate from (Confirm a) shows le unready =
     false_from_ne_true _ (λ e. let p = is_of-parts from a gate e in
-      let ready : is_ready (states gate.joiner).phase ≡ true = subst (λ y. is_ready (states y).phase ≡ true) (sym p.0) (IsReadyWith-ready a (states from).phase shows) in cc)
+    let ready : is_ready (states gate.joiner).phase ≡ true = subst (λ y. is_ready (states y).phase ≡ true) (sym p.0) (IsReadyWith-ready a (states from).phase shows) in cc)
 spared states gate from (LeaseRequest a l r) shows le unready =
     false_from_ne_true _ (λ e. let p = is_older-parts from a gate e in let at = at_joiner states gate from p.0 le in let older = p.1 in
-      let past = HasLeased-attempt a l r (states from).phase shows in absurd (omega arith))
+    let past = HasLeased-attempt a l r (states from).phase shows in absurd (omega arith))
 spared states gate from _ shows le unready = tt
 
 -- what holds of an input, of its message
@@ -106,8 +106,8 @@ lease_lasts : (g : Setting) (w : World) (e : Entry) (x : ℕ) (i : Input) → Me
 lease_lasts g w e x i h t z right lease at le unready =
     state_at-each (λ y s. lease_on right (w.states y) ≡ Some lease → lease_on right s ≡ Some lease) w.states x _ z
     (λ f. seat_lasts _ i _ (step_seat (w.states x) i) right lease f spares) (λ f. f) at where
-  spares : Spares lease.gate i
-  spares = by_message g w (Spares lease.gate) h (λ n c. tt) tt e.event x i t.arrives (λ u m b f r. spared w.states lease.gate u.sender u.message b.shows le unready)
+      spares : Spares lease.gate i
+      spares = by_message g w (Spares lease.gate) h (λ n c. tt) tt e.event x i t.arrives (λ u m b f r. spared w.states lease.gate u.sender u.message b.shows le unready)
 
 has_lasts : (g : Setting) (w : World) (e : Entry) (x : ℕ) (i : Input) → MessagesHold g w → Takes g w e x i → (z : ℕ) (right : Bool) (j a : ℕ) (lists : Lists) → HasLease right (w.states z) j a lists →
     attempt_in w.states j ≤ a → is_ready (w.states j).phase ≡ false → HasLease right (state_at w.states x (step (w.states x) i).state z) j a lists
@@ -181,13 +181,16 @@ has_side g w x h k side from a n l r fl fr lists e f (right, has) = record {
 } where
   gate : GateHolds g w.states has.lease.gate
   gate = (k.gates from).each right has.lease has.at
+
   leased : HasLeased a has.lease.gate.left has.lease.gate.right (Leasing a n l r fl fr)
   leased =
       subst (HasLeased a has.lease.gate.left has.lease.gate.right) e
       (subst (λ y. HasLeased a has.lease.gate.left has.lease.gate.right (w.states y).phase) has.joiner
-        (subst (λ b. HasLeased b has.lease.gate.left has.lease.gate.right (w.states has.lease.gate.joiner).phase) has.attempt gate.leased))
+      (subst (λ b. HasLeased b has.lease.gate.left has.lease.gate.right (w.states has.lease.gate.joiner).phase) has.attempt gate.leased))
+
   between : (has.lease.gate.left ≡ l) × (has.lease.gate.right ≡ r)
   between = leased_between a has.lease.gate.left has.lease.gate.right n l r fl fr leased
+
   ends : (side : Bool) → end_in (not side) has.lease.gate ≡ pick (not side) l r
   ends true = between.0
   ends false = between.1
@@ -204,7 +207,7 @@ message_brings g w x h k from _ b = tt
 pub brings : (g : Setting) (w : World) (e : Entry) (x : ℕ) (i : Input) → MessagesHold g w → GatesHold g w → Takes g w e x i → Brings w.states x (w.states x).phase i
 brings g w e x i h k t = by_message g w (Brings w.states x (w.states x).phase) h (λ n c. tt) tt e.event x i t.arrives
     (λ u m b f r. message_brings g w x h k u.sender u.message
-      (subst (λ y. GrantShown w.states u.sender y u.message) r (Each-slice_get (GrantHolds w.states) (sent_in w.past) m u k.grants f).grant))
+    (subst (λ y. GrantShown w.states u.sender y u.message) r (Each-slice_get (GrantHolds w.states) (sent_in w.past) m u k.grants f).grant))
 
 -- ---- one step keeps it
 
@@ -231,41 +234,52 @@ keeps g w e x i h h' k t =
       grants = subst (λ vs. Each (GrantHolds after) vs) (sym (sent_in-push w.past e)) (Each-append (GrantHolds after) (sent_in w.past) _ old fresh);
       kept = λ y. kept_lasts g w e x i h t y (after y).phase (attempt_grows w.states x i y) (unready y) (kept_before y);
     } where
-  o : Outcome
-  o = step (w.states x) i
-  seat : Seat (w.states x) i o
-  seat = step_seat (w.states x) i
-  after : ℕ → State
-  after = state_at w.states x o.state
-  here : after x ≡ o.state
-  here = state_at-itself w.states x o.state
-  lasting : (y : ℕ) → AllGates (GateHolds g after) (w.states y)
-  lasting y = record {
-    each = λ right lease at. let b = (k.gates y).each right lease at in record {
-      joiner = b.joiner;
-      leased = HasLeased-moves lease.gate.attempt lease.gate.left lease.gate.right _ _ (moved w.states x i lease.gate.joiner) b.leased;
-    };
-  }
-  asks : Asks (GateHolds g after) i
-  asks = by_message g w (Asks (GateHolds g after)) h (λ n c. tt) tt e.event x i t.arrives
-      (λ u m b f r. asked_gates (GateHolds g after) u.sender u.message (λ a l q is. record {
-          joiner = b.sender;
-          leased = HasLeased-moves a l q _ _ (moved w.states x i u.sender) (subst (Shows (w.states u.sender).phase) is b.shows);
-        }))
-  gates : (y : ℕ) → AllGates (GateHolds g after) (after y)
-  gates y = state_at-each (λ z s. AllGates (GateHolds g after) s) w.states x o.state y (seat_gates (GateHolds g after) _ i o seat asks (lasting x)) (lasting y)
-  old : Each (GrantHolds after) (sent_in w.past)
-  old = Each-weaker (GrantHolds w.states) (GrantHolds after) (sent_in w.past) (λ v b. record { grant = grant_lasts g w e x i h t v.sender v.receiver v.message b.grant }) k.grants
-  at_x : AllGates (GateHolds g after) o.state
-  at_x = subst (AllGates (GateHolds g after)) here (gates x)
-  fresh : Each (GrantHolds after) e.messages
-  fresh = each_envelope (GrantHolds after) x e.messages o.sends t.messages
-      (Each-weaker (λ m. GrantedBy o.state m.receiver m.message) (λ m. (v : Envelope) → IsFrom x m v → GrantHolds after v) o.sends
-        (λ m b v f. record { grant = rw (f.sender, f.receiver, f.message) (granted_shown g after o.state x m.receiver m.message here at_x b) }) (seat_grants _ i o seat).each)
-  kept_before : (y : ℕ) → PhaseKept w.states y (after y).phase
-  kept_before y = state_at-each (λ z s. PhaseKept w.states z s.phase) w.states x o.state y (seat_kept w.states x _ i o seat (brings g w e x i h k t) (k.kept x)) (k.kept y)
-  unready : (y : ℕ) → is_ready (w.states y).phase ≡ false ⊎ (is_ready (after y).phase ≡ true)
-  unready y = elim (cases_Bool (is_ready (w.states y).phase)) [ inl r ↦ inr (ready_stays w.states x i y r) | inr f ↦ inl f ]
+      o : Outcome
+      o = step (w.states x) i
+
+      seat : Seat (w.states x) i o
+      seat = step_seat (w.states x) i
+
+      after : ℕ → State
+      after = state_at w.states x o.state
+
+      here : after x ≡ o.state
+      here = state_at-itself w.states x o.state
+
+      lasting : (y : ℕ) → AllGates (GateHolds g after) (w.states y)
+      lasting y = record {
+        each = λ right lease at. let b = (k.gates y).each right lease at in record {
+          joiner = b.joiner;
+          leased = HasLeased-moves lease.gate.attempt lease.gate.left lease.gate.right _ _ (moved w.states x i lease.gate.joiner) b.leased;
+        };
+      }
+
+      asks : Asks (GateHolds g after) i
+      asks = by_message g w (Asks (GateHolds g after)) h (λ n c. tt) tt e.event x i t.arrives
+          (λ u m b f r. asked_gates (GateHolds g after) u.sender u.message (λ a l q is. record {
+            joiner = b.sender;
+            leased = HasLeased-moves a l q _ _ (moved w.states x i u.sender) (subst (Shows (w.states u.sender).phase) is b.shows);
+          }))
+
+      gates : (y : ℕ) → AllGates (GateHolds g after) (after y)
+      gates y = state_at-each (λ z s. AllGates (GateHolds g after) s) w.states x o.state y (seat_gates (GateHolds g after) _ i o seat asks (lasting x)) (lasting y)
+
+      old : Each (GrantHolds after) (sent_in w.past)
+      old = Each-weaker (GrantHolds w.states) (GrantHolds after) (sent_in w.past) (λ v b. record { grant = grant_lasts g w e x i h t v.sender v.receiver v.message b.grant }) k.grants
+
+      at_x : AllGates (GateHolds g after) o.state
+      at_x = subst (AllGates (GateHolds g after)) here (gates x)
+
+      fresh : Each (GrantHolds after) e.messages
+      fresh = each_envelope (GrantHolds after) x e.messages o.sends t.messages
+          (Each-weaker (λ m. GrantedBy o.state m.receiver m.message) (λ m. (v : Envelope) → IsFrom x m v → GrantHolds after v) o.sends
+          (λ m b v f. record { grant = rw (f.sender, f.receiver, f.message) (granted_shown g after o.state x m.receiver m.message here at_x b) }) (seat_grants _ i o seat).each)
+
+      kept_before : (y : ℕ) → PhaseKept w.states y (after y).phase
+      kept_before y = state_at-each (λ z s. PhaseKept w.states z s.phase) w.states x o.state y (seat_kept w.states x _ i o seat (brings g w e x i h k t) (k.kept x)) (k.kept y)
+
+      unready : (y : ℕ) → is_ready (w.states y).phase ≡ false ⊎ (is_ready (after y).phase ≡ true)
+      unready y = elim (cases_Bool (is_ready (w.states y).phase)) [ inl r ↦ inr (ready_stays w.states x i y r) | inr f ↦ inl f ]
 
 -- ---- at the start
 

@@ -91,13 +91,17 @@ again_has : (s : State) (from a l r x y : ℕ) → is_again (links_of s x y) s.m
 again_has s from a l r x y h =
     elim (cases_Bool (s.me == l)) [
       | inl e ↦ (true, found_gate true s from a (implied (s.me == l) (is_gate_of from a (bare s.right_gate)) sides.0 e) _ (ap lists_of (cond-true (s.me == l) s.right_gate s.left_gate e)))
-      | inr e ↦ (false, found_gate false s from a (implied (s.me == r) (is_gate_of from a (bare s.left_gate)) sides.1 (or_other (s.me == l) (s.me == r) parts.0 e)) _
-          (ap lists_of (cond-false (s.me == l) s.right_gate s.left_gate e)))
+      | inr e ↦ (
+        false,
+        found_gate false s from a (implied (s.me == r) (is_gate_of from a (bare s.left_gate)) sides.1 (or_other (s.me == l) (s.me == r) parts.0 e)) _
+            (ap lists_of (cond-false (s.me == l) s.right_gate s.left_gate e)),
+      )
     ] where
-  parts : (((s.me == l) || (s.me == r)) ≡ true) × ((not (s.me == l) || is_gate_of from a (bare s.right_gate)) && (not (s.me == r) || is_gate_of from a (bare s.left_gate)) ≡ true)
-  parts = and_parts ((s.me == l) || (s.me == r)) ((not (s.me == l) || is_gate_of from a (bare s.right_gate)) && (not (s.me == r) || is_gate_of from a (bare s.left_gate))) h
-  sides : (not (s.me == l) || is_gate_of from a (bare s.right_gate) ≡ true) × (not (s.me == r) || is_gate_of from a (bare s.left_gate) ≡ true)
-  sides = and_parts (not (s.me == l) || is_gate_of from a (bare s.right_gate)) (not (s.me == r) || is_gate_of from a (bare s.left_gate)) parts.1
+      parts : (((s.me == l) || (s.me == r)) ≡ true) × ((not (s.me == l) || is_gate_of from a (bare s.right_gate)) && (not (s.me == r) || is_gate_of from a (bare s.left_gate)) ≡ true)
+      parts = and_parts ((s.me == l) || (s.me == r)) ((not (s.me == l) || is_gate_of from a (bare s.right_gate)) && (not (s.me == r) || is_gate_of from a (bare s.left_gate))) h
+
+      sides : (not (s.me == l) || is_gate_of from a (bare s.right_gate) ≡ true) × (not (s.me == r) || is_gate_of from a (bare s.left_gate) ≡ true)
+      sides = and_parts (not (s.me == l) || is_gate_of from a (bare s.right_gate)) (not (s.me == r) || is_gate_of from a (bare s.left_gate)) parts.1
 
 -- a side is asked for
 asked_side : (s : State) (from l r x y : ℕ) → fits (links_of s x y) s.me from l r ≡ true → (right : Bool) × (s.me ≡ pick (not right) l r)
@@ -106,9 +110,9 @@ asked_side s from l r x y f =
       | inl e ↦ (true, (Decides-eqb s.me l).0 e)
       | inr e ↦ (false, (Decides-eqb s.me r).0 e)
     ] where
-  asked : (s.me == l) || (s.me == r) ≡ true
-  asked = (and_parts ((s.me == l) || (s.me == r)) ((not (s.me == l) || (y == r)) && (not (s.me == r) || (x == l)))
-      (and_parts (is_between l from r) (((s.me == l) || (s.me == r)) && ((not (s.me == l) || (y == r)) && (not (s.me == r) || (x == l)))) f).1).0
+      asked : (s.me == l) || (s.me == r) ≡ true
+      asked = (and_parts ((s.me == l) || (s.me == r)) ((not (s.me == l) || (y == r)) && (not (s.me == r) || (x == l)))
+          (and_parts (is_between l from r) (((s.me == l) || (s.me == r)) && ((not (s.me == l) || (y == r)) && (not (s.me == r) || (x == l)))) f).1).0
 
 new_has : (s t : State) (from a l r x y : ℕ) (lists : Lists) → fits (links_of s x y) s.me from l r ≡ true →
     t.left_gate ≡ (with_lease (cleared s from a) from a l r lists).left_gate → t.right_gate ≡ (with_lease (cleared s from a) from a l r lists).right_gate →
@@ -116,9 +120,9 @@ new_has : (s t : State) (from a l r x y : ℕ) (lists : Lists) → fits (links_o
 new_has s t from a l r x y lists f e g =
     let asked = asked_side s from l r x y f in
     (asked.0, record { lease = lease_of from a l r lists; at = same asked.0 ∙ new_stands s from a l r lists asked.0 asked.1; joiner = refl; attempt = refl; same = refl }) where
-  same : (right : Bool) → lease_on right t ≡ lease_on right (with_lease (cleared s from a) from a l r lists)
-  same true = g
-  same false = e
+      same : (right : Bool) → lease_on right t ≡ lease_on right (with_lease (cleared s from a) from a l r lists)
+      same true = g
+      same false = e
 
 pub seat_grants : (s : State) (i : Input) (o : Outcome) → Seat s i o → AllGranted o.state o.sends
 seat_grants _ _ _ (row.serves s i o e f g) = record { each = Each-weaker (λ m. IsService m.message) (λ m. GrantedBy o.state m.receiver m.message) o.sends (λ m. service_granted o.state m.receiver m.message) f.each }
@@ -132,11 +136,15 @@ seat_grants _ _ _ (row.grant_readies s t from a m l r fl fr left right manifest 
 seat_grants _ _ _ (row.file_readies s from a m l r left right file bytes e f g h) =
     record { each = Each-append _ (to_both l r (Confirm a)) _ (to_both_granted _ l r (Confirm a) (λ y. tt)) (to_each_granted _ _ Announce (λ y. tt)) }
 seat_grants _ _ _ (row.lease_again s from a l r b x y e f) =
-    record { each = granted_sends (λ m. GrantedBy s m.receiver m.message) from a (lists_of (if s.me == l then s.right_gate else s.left_gate)) s.files
-        (again_has s from a l r x y f) (λ m. service_granted s m.receiver m.message) }
+    record {
+      each = granted_sends (λ m. GrantedBy s m.receiver m.message) from a (lists_of (if s.me == l then s.right_gate else s.left_gate)) s.files
+          (again_has s from a l r x y f) (λ m. service_granted s m.receiver m.message);
+    }
 seat_grants _ _ _ (row.lease_new s from a l r b x y e f g) =
-    record { each = newly_gated_sends (λ m. GrantedBy _ m.receiver m.message) (cleared s from a) x y from a l r
-        (new_has s _ from a l r x y (new_lists (cleared s from a) x y from a l r) g refl refl) (λ m. service_granted _ m.receiver m.message) }
+    record {
+      each = newly_gated_sends (λ m. GrantedBy _ m.receiver m.message) (cleared s from a) x y from a l r
+          (new_has s _ from a l r x y (new_lists (cleared s from a) x y from a l r) g refl refl) (λ m. service_granted _ m.receiver m.message);
+    }
 seat_grants _ _ _ m = record { each = search rules }
 
 -- ---- what a joiner keeps
@@ -229,7 +237,7 @@ seat_kept F i s _ _ m b h = h
 pub data Becomes (F : ℕ → State) (i : ℕ) (s : State) (o : Outcome) : Type 0 where
   is_same : is_ready o.state.phase ≡ is_ready s.phase → Becomes F i s o
   is_new : (a n l r : ℕ) (from_left from_right : Option Lists) (left right : Lists) → s.phase ≡ Leasing a n l r from_left from_right → o.state.phase ≡ Ready a l r →
-    HasLease true (F l) i a left → HasLease false (F r) i a right → o.state.left_gate ≡ s.left_gate → o.state.right_gate ≡ s.right_gate → Becomes F i s o
+      HasLease true (F l) i a left → HasLease false (F r) i a right → o.state.left_gate ≡ s.left_gate → o.state.right_gate ≡ s.right_gate → Becomes F i s o
 
 both_unready : (F : ℕ → State) (i : ℕ) (s : State) (o : Outcome) (p : Phase) → s.phase ≡ p → is_ready p ≡ false → is_ready o.state.phase ≡ false → Becomes F i s o
 both_unready F i s o p e f g = is_same (g ∙ sym (ap is_ready e ∙ f))

@@ -73,10 +73,10 @@ unless_kept test o lease e f = rw e (cond-false (test lease.gate) None (Some lea
 same_fits : (s t : State) → SameSeat s t → LeasesFit s → LeasesFit t
 same_fits s t e h = record {
   each = λ right lease at. let f = h.each right lease (sym (same_lease right) ∙ at) in record {
-      own = f.own ∙ sym e.me;
-      link = subst (λ p. IsLinkOf right p (end_in right lease.gate)) (sym e.phase) f.link;
-      twin = λ m. same_lease (not right) ∙ f.twin (m ∙ e.me);
-    };
+    own = f.own ∙ sym e.me;
+    link = subst (λ p. IsLinkOf right p (end_in right lease.gate)) (sym e.phase) f.link;
+    twin = λ m. same_lease (not right) ∙ f.twin (m ∙ e.me);
+  };
 } where
   same_lease : (right : Bool) → lease_on right t ≡ lease_on right s
   same_lease true = e.right_gate
@@ -92,10 +92,10 @@ none_fits s t e same h = record {
 known_fits : (s t : State) → t.me ≡ s.me → t.phase ≡ s.phase → ((right : Bool) → lease_on right t ≡ lease_on right s) → LeasesFit s → LeasesFit t
 known_fits s t m p same h = record {
   each = λ right lease at. let f = h.each right lease (sym (same right) ∙ at) in record {
-      own = f.own ∙ sym m;
-      link = subst (λ q. IsLinkOf right q (end_in right lease.gate)) (sym p) f.link;
-      twin = λ k. same (not right) ∙ f.twin (k ∙ m);
-    };
+    own = f.own ∙ sym m;
+    link = subst (λ q. IsLinkOf right q (end_in right lease.gate)) (sym p) f.link;
+    twin = λ k. same (not right) ∙ f.twin (k ∙ m);
+  };
 }
 
 lease_on-without : (test : Gate → Bool) (s : State) (right : Bool) → lease_on right (without_gates test s) ≡ unless_lease test (lease_on right s)
@@ -130,7 +130,7 @@ confirmed_fits s t from a b x y e m p gates h = record {
       };
 } where
   links : (right : Bool) (lease : Lease) → lease_on right s ≡ Some lease → is_of from a lease.gate ≡ false →
-    pick right (link_after from a (bare s.left_gate) x) (link_after from a (bare s.right_gate) y) ≡ pick right x y
+      pick right (link_after from a (bare s.left_gate) x) (link_after from a (bare s.right_gate) y) ≡ pick right x y
   links true lease g f = link_after-kept from a s.right_gate lease y g f
   links false lease g f = link_after-kept from a s.left_gate lease x g f
 
@@ -148,9 +148,9 @@ bare-none (Some g) e = cc
 bare-unless : (test : Gate → Bool) (o : Option Lease) → bare (unless_lease test o) ≡ unless test (bare o)
 bare-unless test None = refl
 bare-unless test (Some g) = elim (cases_Bool (test g.gate)) [
-    | inl e ↦ ap bare (cond-true (test g.gate) None (Some g) e) ∙ sym (cond-true (test g.gate) None (Some g.gate) e)
-    | inr e ↦ ap bare (cond-false (test g.gate) None (Some g) e) ∙ sym (cond-false (test g.gate) None (Some g.gate) e)
-  ]
+  | inl e ↦ ap bare (cond-true (test g.gate) None (Some g) e) ∙ sym (cond-true (test g.gate) None (Some g.gate) e)
+  | inr e ↦ ap bare (cond-false (test g.gate) None (Some g) e) ∙ sym (cond-false (test g.gate) None (Some g.gate) e)
+]
 
 or_else-none : (a b : Option ℕ) → or_else a b ≡ None → (a ≡ None) × (b ≡ None)
 or_else-none None b e = (refl, e)
@@ -174,9 +174,11 @@ pub free_side : (s : State) (right : Bool) (from a l r x y : ℕ) → blocked_by
 free_side s right from a l r x y b f asked = by right asked where
   none : (busy_with (s.me == l) (unless (is_older from a) (bare s.right_gate)) ≡ None) × (busy_with (s.me == r) (unless (is_older from a) (bare s.left_gate)) ≡ None)
   none = or_else-none (busy_with (s.me == l) (unless (is_older from a) (bare s.right_gate))) (busy_with (s.me == r) (unless (is_older from a) (bare s.left_gate))) b
+
   sides : (not (s.me == l) || (y == r) ≡ true) × (not (s.me == r) || (x == l) ≡ true)
   sides = and_parts (not (s.me == l) || (y == r)) (not (s.me == r) || (x == l)) (and_parts ((s.me == l) || (s.me == r)) ((not (s.me == l) || (y == r)) && (not (s.me == r) || (x == l)))
       (and_parts (is_between l from r) (((s.me == l) || (s.me == r)) && ((not (s.me == l) || (y == r)) && (not (s.me == r) || (x == l)))) f).1).1
+
   by : (right : Bool) → s.me == pick (not right) l r ≡ true → IsFree (cleared s from a) right l r x y
   by true e = record {
     gate = bare-none _ (bare-unless (is_older from a) s.right_gate ∙ busy_with-none (s.me == l) _ none.0 e);
@@ -225,19 +227,20 @@ new_fits s t from a l r b x y lists e free f same h = same_fits (with_lease c fr
   each = λ right lease at.
       elim (gate_on_some (s.me == pick (not right) l r) new (lease_on right c) lease (sym (lease_on-new c from a l r lists right) ∙ at)) [
         | inl (asked, is) ↦ subst (Fits (with_lease c from a l r lists) right) is (record {
-            own = sym (same_number s.me (pick (not right) l r) asked);
-            link = subst (λ p. IsLinkOf right p (pick right l r)) (sym e) (free_side s right from a l r x y free f asked).link;
-            twin = λ m. new_twin s from a l r lists right m;
-          })
+          own = sym (same_number s.me (pick (not right) l r) asked);
+          link = subst (λ p. IsLinkOf right p (pick right l r)) (sym e) (free_side s right from a l r x y free f asked).link;
+          twin = λ m. new_twin s from a l r lists right m;
+        })
         | inr (unasked, was) ↦ let k = (without_fits (is_older from a) s h).each right lease was in record {
-            own = k.own;
-            link = k.link;
-            twin = λ m. new_keeps s from a l r x y lists (not right) lease free f (k.twin m);
-          }
+          own = k.own;
+          link = k.link;
+          twin = λ m. new_keeps s from a l r x y lists (not right) lease free f (k.twin m);
+        }
       ];
 }) where
   c : State
   c = cleared s from a
+
   new : Lease
   new = lease_of from a l r lists
 

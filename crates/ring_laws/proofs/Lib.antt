@@ -10,3 +10,4 @@ pub mod Grants
 pub mod Gates
 pub mod Sides
 pub mod Ring
+pub mod Owner

@@ -56,19 +56,23 @@ ring_kept g w e x i set h k t same =
       grows = λ z. attempt_grows w.states x i z;
       kept = λ z p. Moves-settled _ _ (moved w.states x i z) p;
     }) (λ right z p. state_at-each (λ y s. ReadyIn w.states y → HasSide right P (attempt_in w.states) y (side_of s right)) w.states x o.state z (here right) (λ q. k.ring.side right z q) p) where
-  o : Outcome
-  o = step (w.states x) i
-  after : ℕ → State
-  after = state_at w.states x o.state
-  P : ℕ → Type 0
-  P = ReadyIn w.states
-  as_ready : (z : ℕ) → is_ready (after z).phase ≡ is_ready (w.states z).phase
-  as_ready z = state_at-each (λ y (s : State). is_ready s.phase ≡ is_ready (w.states y).phase) w.states x o.state z same refl
-  here : (right : Bool) → P x → HasSide right P (attempt_in w.states) x (side_of o.state right)
-  here right px =
-      subst (λ y. HasSide right P (attempt_in w.states) y (side_of o.state right)) (h.me x)
-      (seat_sides right P (attempt_in w.states) (w.states x) i o (step_seat (w.states x) i) px k.ring.in_ring (subst P (sym (h.me x)) px) (input_keeps g w e x i set h t)
-        (subst (λ y. HasSide right P (attempt_in w.states) y (side_of (w.states x) right)) (sym (h.me x)) (k.ring.side right x px)))
+      o : Outcome
+      o = step (w.states x) i
+
+      after : ℕ → State
+      after = state_at w.states x o.state
+
+      P : ℕ → Type 0
+      P = ReadyIn w.states
+
+      as_ready : (z : ℕ) → is_ready (after z).phase ≡ is_ready (w.states z).phase
+      as_ready z = state_at-each (λ y (s : State). is_ready s.phase ≡ is_ready (w.states y).phase) w.states x o.state z same refl
+
+      here : (right : Bool) → P x → HasSide right P (attempt_in w.states) x (side_of o.state right)
+      here right px =
+          subst (λ y. HasSide right P (attempt_in w.states) y (side_of o.state right)) (h.me x)
+          (seat_sides right P (attempt_in w.states) (w.states x) i o (step_seat (w.states x) i) px k.ring.in_ring (subst P (sym (h.me x)) px) (input_keeps g w e x i set h t)
+          (subst (λ y. HasSide right P (attempt_in w.states) y (side_of (w.states x) right)) (sym (h.me x)) (k.ring.side right x px)))
 
 -- ---- one node becomes ready
 
@@ -78,11 +82,12 @@ lease_ends : (g : Setting) (w : World) (x a n l r : ℕ) (fl fr : Option Lists) 
 lease_ends g w x a n l r fl fr right y lists k e has = leased_between a has.lease.gate.left has.lease.gate.right n l r fl fr leased where
   gate : GateHolds g w.states has.lease.gate
   gate = (k.gates y).each right has.lease has.at
+
   leased : HasLeased a has.lease.gate.left has.lease.gate.right (Leasing a n l r fl fr)
   leased =
       subst (HasLeased a has.lease.gate.left has.lease.gate.right) e
       (subst (λ z. HasLeased a has.lease.gate.left has.lease.gate.right (w.states z).phase) has.joiner
-        (subst (λ b. HasLeased b has.lease.gate.left has.lease.gate.right (w.states has.lease.gate.joiner).phase) has.attempt gate.leased))
+      (subst (λ b. HasLeased b has.lease.gate.left has.lease.gate.right (w.states has.lease.gate.joiner).phase) has.attempt gate.leased))
 
 is_link : (right : Bool) (p : Phase) (y : ℕ) → IsLinkOf right p y → link_of right p ≡ y
 is_link right (Ready a l r) y e = sym e
@@ -126,51 +131,65 @@ ring_grown g w e x i a n l r fl fr left right set h k q t was now has_left has_r
       link = link;
       gate = gate;
     }) others mine where
-  o : Outcome
-  o = step (w.states x) i
-  after : ℕ → State
-  after = state_at w.states x o.state
-  P : ℕ → Type 0
-  P = ReadyIn w.states
-  here : after x ≡ o.state
-  here = state_at-itself w.states x o.state
-  unready : is_ready (w.states x).phase ≡ false
-  unready = ap is_ready was
-  absent : P x → ⊥
-  absent p = cc
-  there : (z : ℕ) → with P x z → ReadyIn after z
-  there z (inl p) = ready_stays w.states x i z p
-  there z (inr f) = subst (ReadyIn after) (sym f) (ap (λ (s : State). is_ready s.phase) here ∙ ap is_ready now)
-  asked : P l × P r
-  asked = subst (PhaseKnows P) was (h.knows x).phase
-  held : (side : Bool) → P (holder_of l r side)
-  held true = asked.0
-  held false = asked.1
-  link : (side : Bool) → (sides_in w.states (holder_of l r side) side).link ≡ holder_of l r (not side)
-  link true = holder_link (w.states l) true x a left (k.fit l) has_left ∙ (lease_ends g w x a n l r fl fr true l left k was has_left).1
-  link false = holder_link (w.states r) false x a right (k.fit r) has_right ∙ (lease_ends g w x a n l r fl fr false r right k was has_right).0
-  gate : (side : Bool) → (sides_in w.states (holder_of l r side) side).gate ≡ Some (record { joiner = x; attempt = a })
-  gate true = holder_gate (w.states l) true x a left has_left
-  gate false = holder_gate (w.states r) false x a right has_right
-  others : (side : Bool) (z : ℕ) → P z → sides_in after z side ≡ sides_in w.states z side
-  others side z p = ap (λ s. side_of s side) (state_at-other w.states x o.state z (λ f. absent (subst P f p)))
-  new_side : (side : Bool) → side_of o.state side ≡ record { link = holder_of l r (not side); gate = None }
-  new_side true = λ j. record { link = ap (link_of true) now j; gate = (ap short same_right ∙ no_lease (w.states x) true (k.fit x) unready) j }
-  new_side false = λ j. record { link = ap (link_of false) now j; gate = (ap short same_left ∙ no_lease (w.states x) false (k.fit x) unready) j }
-  mine : (side : Bool) → sides_in after x side ≡ record { link = holder_of l r (not side); gate = None }
-  mine side = ap (λ s. side_of s side) here ∙ new_side side
+      o : Outcome
+      o = step (w.states x) i
+
+      after : ℕ → State
+      after = state_at w.states x o.state
+
+      P : ℕ → Type 0
+      P = ReadyIn w.states
+
+      here : after x ≡ o.state
+      here = state_at-itself w.states x o.state
+
+      unready : is_ready (w.states x).phase ≡ false
+      unready = ap is_ready was
+
+      absent : P x → ⊥
+      absent p = cc
+
+      there : (z : ℕ) → with P x z → ReadyIn after z
+      there z (inl p) = ready_stays w.states x i z p
+      there z (inr f) = subst (ReadyIn after) (sym f) (ap (λ (s : State). is_ready s.phase) here ∙ ap is_ready now)
+
+      asked : P l × P r
+      asked = subst (PhaseKnows P) was (h.knows x).phase
+
+      held : (side : Bool) → P (holder_of l r side)
+      held true = asked.0
+      held false = asked.1
+
+      link : (side : Bool) → (sides_in w.states (holder_of l r side) side).link ≡ holder_of l r (not side)
+      link true = holder_link (w.states l) true x a left (k.fit l) has_left ∙ (lease_ends g w x a n l r fl fr true l left k was has_left).1
+      link false = holder_link (w.states r) false x a right (k.fit r) has_right ∙ (lease_ends g w x a n l r fl fr false r right k was has_right).0
+
+      gate : (side : Bool) → (sides_in w.states (holder_of l r side) side).gate ≡ Some (record { joiner = x; attempt = a })
+      gate true = holder_gate (w.states l) true x a left has_left
+      gate false = holder_gate (w.states r) false x a right has_right
+
+      others : (side : Bool) (z : ℕ) → P z → sides_in after z side ≡ sides_in w.states z side
+      others side z p = ap (λ s. side_of s side) (state_at-other w.states x o.state z (λ f. absent (subst P f p)))
+
+      new_side : (side : Bool) → side_of o.state side ≡ record { link = holder_of l r (not side); gate = None }
+      new_side true = λ j. record { link = ap (link_of true) now j; gate = (ap short same_right ∙ no_lease (w.states x) true (k.fit x) unready) j }
+      new_side false = λ j. record { link = ap (link_of false) now j; gate = (ap short same_left ∙ no_lease (w.states x) false (k.fit x) unready) j }
+
+      mine : (side : Bool) → sides_in after x side ≡ record { link = holder_of l r (not side); gate = None }
+      mine side = ap (λ s. side_of s side) here ∙ new_side side
 
 -- ---- one step keeps the ring
 
 keeps : (g : Setting) → IsSetting g → (w : World) (e : Entry) (x : ℕ) (i : Input) → Both (MessagesHold g) (GatesHold g) w → RingHolds g w → Takes g w e x i → RingHolds g (stepped w e x (step (w.states x) i).state)
 keeps g set w e x i h k t =
     record { ring = by (seat_becomes w.states x (w.states x) i (step (w.states x) i) (step_seat (w.states x) i) (brings g w e x i h.below h.above t) (h.above.kept x)) } where
-  after : ℕ → State
-  after = state_at w.states x (step (w.states x) i).state
-  by : Becomes w.states x (w.states x) (step (w.states x) i) → IsRing (ReadyIn after) (attempt_in after) (sides_in after)
-  by (is_same f) = ring_kept g w e x i set h.below k t f
-  by (is_new a n l r fl fr left right was now has_left has_right same_left same_right) =
-      ring_grown g w e x i a n l r fl fr left right set h.below h.above k t was now has_left has_right same_left same_right
+      after : ℕ → State
+      after = state_at w.states x (step (w.states x) i).state
+
+      by : Becomes w.states x (w.states x) (step (w.states x) i) → IsRing (ReadyIn after) (attempt_in after) (sides_in after)
+      by (is_same f) = ring_kept g w e x i set h.below k t f
+      by (is_new a n l r fl fr left right was now has_left has_right same_left same_right) =
+          ring_grown g w e x i a n l r fl fr left right set h.below h.above k t was now has_left has_right same_left same_right
 
 -- ---- at the start
 

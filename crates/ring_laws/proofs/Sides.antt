@@ -46,24 +46,24 @@ side_is link gate link' gate' e f = λ i. record { link = e i; gate = f i }
 cleared_side : (from a link : ℕ) (o : Option Lease) → side link (short (unless_lease (is_older from a) o)) ≡ rows.cleared from a (side link (short o))
 cleared_side from a link None = refl
 cleared_side from a link (Some lease) = elim (cases_Bool (is_older from a lease.gate)) [
-    | inl e ↦ side_is link _ link None refl (ap short (cond-true (is_older from a lease.gate) None (Some lease) e)) ∙ sym (cond-true (is_older from a lease.gate) _ _ e)
-    | inr e ↦ side_is link _ link (short (Some lease)) refl (ap short (cond-false (is_older from a lease.gate) None (Some lease) e)) ∙ sym (cond-false (is_older from a lease.gate) _ _ e)
-  ]
+  | inl e ↦ side_is link _ link None refl (ap short (cond-true (is_older from a lease.gate) None (Some lease) e)) ∙ sym (cond-true (is_older from a lease.gate) _ _ e)
+  | inr e ↦ side_is link _ link (short (Some lease)) refl (ap short (cond-false (is_older from a lease.gate) None (Some lease) e)) ∙ sym (cond-false (is_older from a lease.gate) _ _ e)
+]
 
 released_side : (from a link : ℕ) (o : Option Lease) → side link (short (unless_lease (is_of from a) o)) ≡ rows.released from a (side link (short o))
 released_side from a link None = refl
 released_side from a link (Some lease) = elim (cases_Bool (is_of from a lease.gate)) [
-    | inl e ↦ side_is link _ link None refl (ap short (cond-true (is_of from a lease.gate) None (Some lease) e)) ∙ sym (cond-true (is_of from a lease.gate) _ _ e)
-    | inr e ↦ side_is link _ link (short (Some lease)) refl (ap short (cond-false (is_of from a lease.gate) None (Some lease) e)) ∙ sym (cond-false (is_of from a lease.gate) _ _ e)
-  ]
+  | inl e ↦ side_is link _ link None refl (ap short (cond-true (is_of from a lease.gate) None (Some lease) e)) ∙ sym (cond-true (is_of from a lease.gate) _ _ e)
+  | inr e ↦ side_is link _ link (short (Some lease)) refl (ap short (cond-false (is_of from a lease.gate) None (Some lease) e)) ∙ sym (cond-false (is_of from a lease.gate) _ _ e)
+]
 
 confirmed_side : (from a link : ℕ) (o : Option Lease) →
     side (link_after from a (bare o) link) (short (unless_lease (is_of from a) o)) ≡ rows.confirmed from a (side link (short o))
 confirmed_side from a link None = refl
 confirmed_side from a link (Some lease) = elim (cases_Bool (is_of from a lease.gate)) [
-    | inl e ↦ side_is _ _ from None (cond-true (is_of from a lease.gate) from link e) (ap short (cond-true (is_of from a lease.gate) None (Some lease) e)) ∙ sym (cond-true (is_of from a lease.gate) _ _ e)
-    | inr e ↦ side_is _ _ link (short (Some lease)) (cond-false (is_of from a lease.gate) from link e) (ap short (cond-false (is_of from a lease.gate) None (Some lease) e)) ∙ sym (cond-false (is_of from a lease.gate) _ _ e)
-  ]
+  | inl e ↦ side_is _ _ from None (cond-true (is_of from a lease.gate) from link e) (ap short (cond-true (is_of from a lease.gate) None (Some lease) e)) ∙ sym (cond-true (is_of from a lease.gate) _ _ e)
+  | inr e ↦ side_is _ _ link (short (Some lease)) (cond-false (is_of from a lease.gate) from link e) (ap short (cond-false (is_of from a lease.gate) None (Some lease) e)) ∙ sym (cond-false (is_of from a lease.gate) _ _ e)
+]
 
 pub side_of-cleared : (s : State) (from a : ℕ) (right : Bool) → side_of (cleared s from a) right ≡ rows.cleared from a (side_of s right)
 side_of-cleared s from a true = cleared_side from a (link_of true s.phase) s.right_gate
@@ -136,19 +136,23 @@ new_side right P attempt s from a l r b x y lists range px e free f le hf h =
           (side_granted right P attempt s.me from a (side_of (cleared s from a) right) range px h (ap short k.gate) hf inside le)
       | inr unasked ↦ subst (HasSide right P attempt s.me) (sym (kept right unasked)) h
     ] where
-  between : is_between l from r ≡ true
-  between = (and_parts (is_between l from r) (((s.me == l) || (s.me == r)) && ((not (s.me == l) || (y == r)) && (not (s.me == r) || (x == l)))) f).0
-  is_link : (right : Bool) → link_of right (Ready b x y) ≡ pick right x y
-  is_link right = refl
-  lease : Lease
-  lease = lease_of from a l r lists
-  taken : (right : Bool) → s.me == pick (not right) l r ≡ true →
-    side_of (with_lease (cleared s from a) from a l r lists) right ≡ side (link_of right s.phase) (Some (record { joiner = from; attempt = a }))
-  taken true asked = side_is _ _ _ _ refl (ap (λ z. short (gate_on z lease (cleared s from a).right_gate)) asked)
-  taken false asked = side_is _ _ _ _ refl (ap (λ z. short (gate_on z lease (cleared s from a).left_gate)) asked)
-  kept : (right : Bool) → s.me == pick (not right) l r ≡ false → side_of (with_lease (cleared s from a) from a l r lists) right ≡ side_of (cleared s from a) right
-  kept true unasked = side_is _ _ _ _ refl (ap (λ z. short (gate_on z lease (cleared s from a).right_gate)) unasked)
-  kept false unasked = side_is _ _ _ _ refl (ap (λ z. short (gate_on z lease (cleared s from a).left_gate)) unasked)
+      between : is_between l from r ≡ true
+      between = (and_parts (is_between l from r) (((s.me == l) || (s.me == r)) && ((not (s.me == l) || (y == r)) && (not (s.me == r) || (x == l)))) f).0
+
+      is_link : (right : Bool) → link_of right (Ready b x y) ≡ pick right x y
+      is_link right = refl
+
+      lease : Lease
+      lease = lease_of from a l r lists
+
+      taken : (right : Bool) → s.me == pick (not right) l r ≡ true →
+          side_of (with_lease (cleared s from a) from a l r lists) right ≡ side (link_of right s.phase) (Some (record { joiner = from; attempt = a }))
+      taken true asked = side_is _ _ _ _ refl (ap (λ z. short (gate_on z lease (cleared s from a).right_gate)) asked)
+      taken false asked = side_is _ _ _ _ refl (ap (λ z. short (gate_on z lease (cleared s from a).left_gate)) asked)
+
+      kept : (right : Bool) → s.me == pick (not right) l r ≡ false → side_of (with_lease (cleared s from a) from a l r lists) right ≡ side_of (cleared s from a) right
+      kept true unasked = side_is _ _ _ _ refl (ap (λ z. short (gate_on z lease (cleared s from a).right_gate)) unasked)
+      kept false unasked = side_is _ _ _ _ refl (ap (λ z. short (gate_on z lease (cleared s from a).left_gate)) unasked)
 
 cleared_has : (right : Bool) (P : ℕ → Type 0) (attempt : ℕ → ℕ) (s : State) (from a : ℕ) → a ≤ attempt from → HasSide right P attempt s.me (side_of s right) → HasSide right P attempt s.me (side_of (cleared s from a) right)
 cleared_has right P attempt s from a le h = subst (HasSide right P attempt s.me) (sym (side_of-cleared s from a right)) (rows.cleared_keeps right P attempt s.me from a (side_of s right) le h)

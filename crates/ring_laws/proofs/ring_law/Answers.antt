@@ -1,0 +1,8 @@
+use Rattle.ring_laws.proofs.Owner.{one_owner, closest_owns}
+use Rattle.ring_laws.proofs.ring_law.Goals as goal
+
+pub returns-clause-one_covers : goal.returns-clause-one_covers
+returns-clause-one_covers c = one_owner _ _ c.requires
+
+pub returns-clause-closest_covers : goal.returns-clause-closest_covers
+returns-clause-closest_covers c = closest_owns _ _ c.requires
