@@ -4,7 +4,7 @@ use Rattle.std.proofs.lemmas.Bool.{cond_both, or_cases, or_parts}
 use Rattle.std.proofs.lemmas.Bool.Decides.{Decides-eqb}
 use Rattle.std.proofs.lemmas.List.Elements.{Contains-append_left, Contains-push}
 use Rattle.ring_math.specs.Ring.{cw_of}
-use Rattle.ring_math.proofs.Membership.{Contains-there}
+use Rattle.ring_math.proofs.Membership.{Contains-is_in}
 use Rattle.ring_math.specs.Sides.{placed, placed_all, nearest_first, right_side, left_side, is_in, leaves, first_or, learn, learn_all}
 use Rattle.overlay_rules.proofs.Each.{Each, Each-append, Each-filter, Each-take}
 
@@ -78,10 +78,6 @@ pub first_left-known : (R : ℕ → Type 0) (me : ℕ) (known : List ℕ) → Is
 first_left-known R me known h t = each_first R me _ (cons_side (λ y. cw_of y me) known h) (each_side R (λ y. cw_of y me) known t)
 
 -- ---- what is known stays known
-
-pub Contains-is_in : (xs : List ℕ) (y : ℕ) → is_in xs y ≡ true → Contains xs y
-Contains-is_in [] y e = cc
-Contains-is_in (x ∷ xs) y e = elim (or_cases (x == y) (is_in xs y) e) [ inl f ↦ let same : x ≡ y = (Decides-eqb x y).0 f in (0, omega arith, same) | inr f ↦ Contains-there x xs y (Contains-is_in xs y f) ]
 
 pub Contains-learn : (me : ℕ) (known : List ℕ) (y z : ℕ) → Contains known z → Contains (learn me known y) z
 Contains-learn me known y z c = cond_both ((y == me) || is_in known y) _ _ (λ xs. Contains xs z) (λ _. c) (λ _. Contains-append_left known (y ∷ []) z c)

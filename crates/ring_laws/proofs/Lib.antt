@@ -11,3 +11,4 @@ pub mod Gates
 pub mod Sides
 pub mod Ring
 pub mod Owner
+pub mod Hops

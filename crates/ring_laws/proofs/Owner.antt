@@ -20,7 +20,7 @@ use Rattle.ring_laws.proofs.Ring.{RingHolds, JoinsHold, sides_in, joins_keep, jo
 
 -- the three invariants hold after every entry
 pub joins_hold : (g : Setting) (es : List Entry) → IsRecord g es → (i : ℕ) → JoinsHold g (world_after g es i)
-joins_hold g es r i = always g (Both (Both (MessagesHold g) (GatesHold g)) (RingHolds g)) (joins_at_start g r.setting) (joins_keep g r.setting) es r.legal i
+joins_hold g es r i = always g (Both (Both (MessagesHold g) (GatesHold g)) (RingHolds g)) (joins_at_start g r.setting) (joins_keep g r.setting) es r i
 
 -- ---- the reach of a ready node
 

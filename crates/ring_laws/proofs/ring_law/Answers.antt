@@ -1,4 +1,5 @@
 use Rattle.ring_laws.proofs.Owner.{one_owner, closest_owns}
+use Rattle.ring_laws.proofs.Hops.{hops_go_nearer}
 use Rattle.ring_laws.proofs.ring_law.Goals as goal
 
 pub returns-clause-one_covers : goal.returns-clause-one_covers
@@ -6,3 +7,6 @@ returns-clause-one_covers c = one_owner _ _ c.requires
 
 pub returns-clause-closest_covers : goal.returns-clause-closest_covers
 returns-clause-closest_covers c = closest_owns _ _ c.requires
+
+pub returns-clause-hops_go_nearer : goal.returns-clause-hops_go_nearer
+returns-clause-hops_go_nearer c = hops_go_nearer _ _ c.requires
