@@ -1,5 +1,5 @@
 -- What one step may do to a node's seat on the ring, row by row: its phase, gates and knowledge, and the messages of joins.
--- The rows of lookups and files, and those where nothing happens, are one: `serves`.
+-- The rows of lookups and files are one, `serves`; those where nothing happens are another.
 use Rattle.std.proofs.Common.{◌≡◌, ◌≢◌, ◌<◌, ◌⊎◌, ℕ, ◌+◌, Bool, true, false, not, ◌&&◌, ◌||◌, ◌==◌, if◌then◌else◌, Option, Some, None, is_none, List, [], ◌∷◌, ◌++◌, filter, map}
 use Rattle.std.specs.List.{list_all, list_any}
 use Rattle.ring_math.specs.Sides.{leaves, learn_all, learn}
@@ -17,7 +17,7 @@ use Rattle.wire_msg.specs.declared.reply.Why.TheVariants as why
 use Rattle.wire_msg.specs.Words.{Message, Lookup, LookupReply, Insert, InsertReply, Fetch, FetchReply, JoinRequest, JoinReply, JoinRefuse, Probe, ProbeReply, LeaseRequest, Grant, Deny, Handover, Release, Confirm, Announce, Replicate, ReplicaAck, Reclaim, ReclaimReply}
 use Rattle.overlay_rules.specs.declared.request.Way.TheVariants as way
 use Rattle.overlay_rules.specs.State.{State, Phase, Waiting, Asking, Probing, Leasing, Ready, attempt_of, is_ready, is_joining}
-use Rattle.overlay_rules.specs.Outcome.{Outcome, Input, Command, Comes, Sent, nothing, becomes, sent, to_both, to_each}
+use Rattle.overlay_rules.specs.Outcome.{Outcome, Input, Command, Comes, Noise, Sent, nothing, becomes, sent, to_both, to_each}
 use Rattle.overlay_rules.specs.Routed.{way_of, one_more, members}
 use Rattle.overlay_rules.specs.Replicas.{holding}
 use Rattle.overlay_rules.specs.Joining.{stopped, given_up, idle, is_unanswered, unanswered, answered_by, was_probed, leasing, probing_on, learnt_of, kept_first, with_grant}
@@ -87,8 +87,20 @@ StopCause p own.Already = (a : ℕ) → p ≢ Waiting a
 StopCause p own.Spent = p ≡ Waiting 4294967295
 StopCause p own.GivenUp = ⊥
 
+-- a request of lookups and files, or a message of them
+abbrev pub IsServiceInput : Input → Type 0
+IsServiceInput (Comes from m) = IsService m
+IsServiceInput (Command n (command.Lookup key)) = Unit {0}
+IsServiceInput (Command n (command.Insert file copies bytes)) = Unit {0}
+IsServiceInput (Command n (command.Fetch file)) = Unit {0}
+IsServiceInput (Command n (command.Reclaim file)) = Unit {0}
+IsServiceInput (Command n (command.Join via)) = ⊥
+IsServiceInput (Command n command.GiveUp) = ⊥
+IsServiceInput Noise = ⊥
+
 pub data Seat : State → Input → Outcome → Type 0 where
-  serves : (s : State) (i : Input) (o : Outcome) → SameSeat s o.state → AllService o.sends → AllServiceNotes o.notes → Seat s i o
+  serves : (s : State) (i : Input) (o : Outcome) → SameSeat s o.state → AllService o.sends → AllServiceNotes o.notes → IsServiceInput i → Seat s i o
+  unmoved : (s : State) (i : Input) → Seat s i (nothing s)
   -- a join request: passed on, answered with members, refused
   request_on : (s : State) (from j a hops y : ℕ) → way_of s j ≡ way.To y →
       Seat s (Comes from (JoinRequest j a hops)) (becomes s (sent y (JoinRequest j a (one_more hops)) ∷ []) [])

@@ -38,7 +38,7 @@ use Rattle.overlay_rules.specs.Gates.{verdict_unless, blocked_by, fits, is_again
 use Rattle.overlay_rules.specs.Gatekeeper.{probe_in, handovers, with_handover, granted, links_of, gated_reach, is_left_to, newly_gated, lease_by, lease_in, confirm_in}
 use Rattle.overlay_rules.specs.Step.{step, waits_for}
 use Rattle.overlay_rules.proofs.Each.{Each, Each-append, Each-weaker}
-use Rattle.overlay_rules.proofs.Seat.{SameSeat, IsService, AllService, IsServiceNote, AllServiceNotes, Seat, serves, request_on, request_served, request_unready, request_busy, begins, not_begun, stops_asking, stops_probing, stops_leasing, idles, refused, probes, probes_on, leases, denied, grant_older, grant_settled, grant_kept, grant_readies, file_readies, probed, lease_unready, lease_again, lease_busy, lease_moved, lease_new, released, confirms, announced}
+use Rattle.overlay_rules.proofs.Seat.{SameSeat, IsService, AllService, IsServiceNote, AllServiceNotes, IsServiceInput, Seat, serves, unmoved, request_on, request_served, request_unready, request_busy, begins, not_begun, stops_asking, stops_probing, stops_leasing, idles, refused, probes, probes_on, leases, denied, grant_older, grant_settled, grant_kept, grant_readies, file_readies, probed, lease_unready, lease_again, lease_busy, lease_moved, lease_new, released, confirms, announced}
 
 -- ---- tests as facts
 
@@ -69,11 +69,8 @@ SameSeat-but s t u e a b c d f = record { me = a ∙ e.me; phase = b ∙ e.phase
 service : (s : State) (o : Outcome) → SameSeat s o.state → Each (λ x. IsService x.message) o.sends → Each IsServiceNote o.notes → Service s o
 service s o e f g = record { seat = e; sends = record { each = f }; notes = record { each = g } }
 
-seat_of : (s : State) (i : Input) (o : Outcome) → Service s o → Seat s i o
-seat_of s i o h = serves s i o h.seat h.sends h.notes
-
-unmoved : (s : State) (i : Input) → Seat s i (nothing s)
-unmoved s i = serves s i (nothing s) (SameSeat-itself s) (record { each = tt }) (record { each = tt })
+seat_of : (s : State) (i : Input) (o : Outcome) → IsServiceInput i → Service s o → Seat s i o
+seat_of s i o q h = serves s i o h.seat h.sends h.notes q
 
 reply_service : (what : Asked) (n : ℕ) (r : Reply) → IsService (reply_message what n r)
 reply_service asked.Lookup n r = tt
@@ -132,48 +129,48 @@ reclaimed_service s t o n file (Some (Some bytes)) e =
 waits : (s : State) (n : ℕ) → SameSeat s (waits_for s n)
 waits s n = record { me = refl; phase = refl; left_gate = refl; right_gate = refl; known = refl }
 
-lookup_seat : (s t : State) (i : Input) (o n key hops : ℕ) → SameSeat s t → Seat s i (on_lookup t o n key hops)
-lookup_seat s t i o n key hops e =
-    seat_of s i _ (served_service s t asked.Lookup o n (way_of t key) (Lookup o n key (one_more hops)) _ e tt (service s _ e (tt, tt) (tt, (tt, tt))))
+lookup_seat : (s t : State) (i : Input) (o n key hops : ℕ) → IsServiceInput i → SameSeat s t → Seat s i (on_lookup t o n key hops)
+lookup_seat s t i o n key hops q e =
+    seat_of s i _ q (served_service s t asked.Lookup o n (way_of t key) (Lookup o n key (one_more hops)) _ e tt (service s _ e (tt, tt) (tt, (tt, tt))))
 
-fetch_seat : (s t : State) (i : Input) (o n hops : ℕ) (file : List ℕ) → SameSeat s t → Seat s i (on_fetch t o n hops file)
-fetch_seat s t i o n hops file e =
-    seat_of s i _ (served_service s t asked.Fetch o n (way_of t (key_of file)) (Fetch o n (one_more hops) file) _ e tt (service s _ e (tt, tt) (tt, tt)))
+fetch_seat : (s t : State) (i : Input) (o n hops : ℕ) (file : List ℕ) → IsServiceInput i → SameSeat s t → Seat s i (on_fetch t o n hops file)
+fetch_seat s t i o n hops file q e =
+    seat_of s i _ q (served_service s t asked.Fetch o n (way_of t (key_of file)) (Fetch o n (one_more hops) file) _ e tt (service s _ e (tt, tt) (tt, tt)))
 
-insert_seat : (s t : State) (i : Input) (o n hops : ℕ) (file : List ℕ) (copies : ℕ) (bytes : List ℕ) → SameSeat s t → Seat s i (on_insert t o n hops file copies bytes)
-insert_seat s t i o n hops file copies bytes e =
-    seat_of s i _ (served_service s t asked.Insert o n (way_of t (key_of file)) (Insert o n (one_more hops) file copies bytes) _ e tt
+insert_seat : (s t : State) (i : Input) (o n hops : ℕ) (file : List ℕ) (copies : ℕ) (bytes : List ℕ) → IsServiceInput i → SameSeat s t → Seat s i (on_insert t o n hops file copies bytes)
+insert_seat s t i o n hops file copies bytes q e =
+    seat_of s i _ q (served_service s t asked.Insert o n (way_of t (key_of file)) (Insert o n (one_more hops) file copies bytes) _ e tt
     (inserted_service s t o n file copies bytes (slot_of t.files file) e))
 
-reclaim_seat : (s t : State) (i : Input) (o n hops : ℕ) (file : List ℕ) → SameSeat s t → Seat s i (on_reclaim t o n hops file)
-reclaim_seat s t i o n hops file e =
-    seat_of s i _ (served_service s t asked.Reclaim o n (way_of t (key_of file)) (Reclaim o n (one_more hops) file) _ e tt
+reclaim_seat : (s t : State) (i : Input) (o n hops : ℕ) (file : List ℕ) → IsServiceInput i → SameSeat s t → Seat s i (on_reclaim t o n hops file)
+reclaim_seat s t i o n hops file q e =
+    seat_of s i _ q (served_service s t asked.Reclaim o n (way_of t (key_of file)) (Reclaim o n (one_more hops) file) _ e tt
     (reclaimed_service s t o n file (slot_of t.files file) e))
 
-reply_seat : (s : State) (i : Input) (n : ℕ) (r : Reply) → Seat s i (on_reply s n r)
-reply_seat s i n r =
+reply_seat : (s : State) (i : Input) (q : IsServiceInput i) (n : ℕ) (r : Reply) → Seat s i (on_reply s n r)
+reply_seat s i q n r =
     cond_both (is_in s.waiting n) _ _ (Seat s i)
-    (λ _. serves s i _ (SameSeat-but s s _ (SameSeat-itself s) refl refl refl refl refl) (record { each = tt }) (record { each = (tt, tt) })) (λ _. unmoved s i)
+    (λ _. serves s i _ (SameSeat-but s s _ (SameSeat-itself s) refl refl refl refl refl) (record { each = tt }) (record { each = (tt, tt) }) q) (λ _. unmoved s i)
 
-replicate_seat : (s : State) (i : Input) (from o n : ℕ) (file bytes : List ℕ) (h : Option Slot) → Seat s i (replicate_at s from o n file bytes h)
-replicate_seat s i from o n file bytes None =
+replicate_seat : (s : State) (i : Input) (q : IsServiceInput i) (from o n : ℕ) (file bytes : List ℕ) (h : Option Slot) → Seat s i (replicate_at s from o n file bytes h)
+replicate_seat s i q from o n file bytes None =
     cond_both (has_room s.files) _ _ (Seat s i)
-    (λ _. serves s i _ (SameSeat-but s s _ (SameSeat-itself s) refl refl refl refl refl) (record { each = (tt, tt) }) (record { each = tt })) (λ _. unmoved s i)
-replicate_seat s i from o n file bytes (Some None) = unmoved s i
-replicate_seat s i from o n file bytes (Some (Some held)) =
-    cond_both (same_bytes held bytes) _ _ (Seat s i) (λ _. serves s i _ (SameSeat-itself s) (record { each = (tt, tt) }) (record { each = tt })) (λ _. unmoved s i)
+    (λ _. serves s i _ (SameSeat-but s s _ (SameSeat-itself s) refl refl refl refl refl) (record { each = (tt, tt) }) (record { each = tt }) q) (λ _. unmoved s i)
+replicate_seat s i q from o n file bytes (Some None) = unmoved s i
+replicate_seat s i q from o n file bytes (Some (Some held)) =
+    cond_both (same_bytes held bytes) _ _ (Seat s i) (λ _. serves s i _ (SameSeat-itself s) (record { each = (tt, tt) }) (record { each = tt }) q) (λ _. unmoved s i)
 
-taken_seat : (s : State) (i : Input) (place : ℕ) (p : Pending) (left : List ℕ) → Seat s i (ack_taken s place p left)
-taken_seat s i place p [] = serves s i _ (SameSeat-but s s _ (SameSeat-itself s) refl refl refl refl refl) (record { each = (tt, tt) }) (record { each = (tt, tt) })
-taken_seat s i place p (y ∷ ys) = serves s i _ (SameSeat-but s s _ (SameSeat-itself s) refl refl refl refl refl) (record { each = tt }) (record { each = tt })
+taken_seat : (s : State) (i : Input) (q : IsServiceInput i) (place : ℕ) (p : Pending) (left : List ℕ) → Seat s i (ack_taken s place p left)
+taken_seat s i q place p [] = serves s i _ (SameSeat-but s s _ (SameSeat-itself s) refl refl refl refl refl) (record { each = (tt, tt) }) (record { each = (tt, tt) }) q
+taken_seat s i q place p (y ∷ ys) = serves s i _ (SameSeat-but s s _ (SameSeat-itself s) refl refl refl refl refl) (record { each = tt }) (record { each = tt }) q
 
-ack_of_seat : (s : State) (i : Input) (from place : ℕ) (p : Option Pending) → Seat s i (ack_of s from place p)
-ack_of_seat s i from place None = unmoved s i
-ack_of_seat s i from place (Some p) = taken_seat s i place p (filter (λ y. not (y == from)) p.awaited)
+ack_of_seat : (s : State) (i : Input) (q : IsServiceInput i) (from place : ℕ) (p : Option Pending) → Seat s i (ack_of s from place p)
+ack_of_seat s i q from place None = unmoved s i
+ack_of_seat s i q from place (Some p) = taken_seat s i q place p (filter (λ y. not (y == from)) p.awaited)
 
-ack_seat : (s : State) (i : Input) (from : ℕ) (place : Option ℕ) → Seat s i (ack_at s from place)
-ack_seat s i from None = unmoved s i
-ack_seat s i from (Some place) = ack_of_seat s i from place (slice_get s.pending place)
+ack_seat : (s : State) (i : Input) (q : IsServiceInput i) (from : ℕ) (place : Option ℕ) → Seat s i (ack_at s from place)
+ack_seat s i q from None = unmoved s i
+ack_seat s i q from (Some place) = ack_of_seat s i q from place (slice_get s.pending place)
 
 -- ---- the join request
 
@@ -322,21 +319,21 @@ grant_seat s from a manifest tombs (Waiting b) e = older_seat s from a b manifes
 grant_seat s from a manifest tombs (Asking b m) e = older_seat s from a b manifest tombs (sym (ap attempt_of e))
 grant_seat s from a manifest tombs (Probing b m ps) e = older_seat s from a b manifest tombs (sym (ap attempt_of e))
 
+put_unready : (s : State) (from : ℕ) (file bytes : List ℕ) → Seat s (Comes from (Handover file bytes)) (nothing (holding s file bytes))
+put_unready s from file bytes = serves s _ _ (SameSeat-but s s _ (SameSeat-itself s) refl refl refl refl refl) (record { each = tt }) (record { each = tt }) tt
+
 -- a file that is put readies the joiner, or it does not
 put_seat : (s : State) (from : ℕ) (file bytes : List ℕ) (p : Phase) → s.phase ≡ p → slot_of s.files file ≡ None → has_room s.files ≡ true →
     Seat s (Comes from (Handover file bytes)) (ready_test_in (holding s file bytes) p)
 put_seat s from file bytes (Leasing a m l r (Some gl) (Some gr)) e f g =
     cond_both (has_all (holding s file bytes) gl && has_all (holding s file bytes) gr) _ _ (Seat s (Comes from (Handover file bytes)))
-    (λ h. file_readies s from a m l r gl gr file bytes e f g h) (λ _. put s from file bytes)
-  where
-    put : (s : State) (from : ℕ) (file bytes : List ℕ) → Seat s (Comes from (Handover file bytes)) (nothing (holding s file bytes))
-    put s from file bytes = serves s _ _ (SameSeat-but s s _ (SameSeat-itself s) refl refl refl refl refl) (record { each = tt }) (record { each = tt })
-put_seat s from file bytes (Leasing a m l r (Some gl) None) e f g = serves s _ _ (SameSeat-but s s _ (SameSeat-itself s) refl refl refl refl refl) (record { each = tt }) (record { each = tt })
-put_seat s from file bytes (Leasing a m l r None gr) e f g = serves s _ _ (SameSeat-but s s _ (SameSeat-itself s) refl refl refl refl refl) (record { each = tt }) (record { each = tt })
-put_seat s from file bytes (Waiting a) e f g = serves s _ _ (SameSeat-but s s _ (SameSeat-itself s) refl refl refl refl refl) (record { each = tt }) (record { each = tt })
-put_seat s from file bytes (Asking a m) e f g = serves s _ _ (SameSeat-but s s _ (SameSeat-itself s) refl refl refl refl refl) (record { each = tt }) (record { each = tt })
-put_seat s from file bytes (Probing a m ps) e f g = serves s _ _ (SameSeat-but s s _ (SameSeat-itself s) refl refl refl refl refl) (record { each = tt }) (record { each = tt })
-put_seat s from file bytes (Ready a l r) e f g = serves s _ _ (SameSeat-but s s _ (SameSeat-itself s) refl refl refl refl refl) (record { each = tt }) (record { each = tt })
+    (λ h. file_readies s from a m l r gl gr file bytes e f g h) (λ _. put_unready s from file bytes)
+put_seat s from file bytes (Leasing a m l r (Some gl) None) e f g = put_unready s from file bytes
+put_seat s from file bytes (Leasing a m l r None gr) e f g = put_unready s from file bytes
+put_seat s from file bytes (Waiting a) e f g = put_unready s from file bytes
+put_seat s from file bytes (Asking a m) e f g = put_unready s from file bytes
+put_seat s from file bytes (Probing a m ps) e f g = put_unready s from file bytes
+put_seat s from file bytes (Ready a l r) e f g = put_unready s from file bytes
 
 handover_seat : (s : State) (from : ℕ) (file bytes : List ℕ) (h : Option Slot) → slot_of s.files file ≡ h → Seat s (Comes from (Handover file bytes)) (handover_at s file bytes h)
 handover_seat s from file bytes None e =
@@ -406,17 +403,17 @@ newly_gated_sends P t x y from a l r g f =
 
 pub step_seat : (s : State) (i : Input) → Seat s i (step s i)
 step_seat s (Command n (command.Join via)) = join_seat s n via s.phase refl
-step_seat s (Command n (command.Lookup key)) = lookup_seat s (waits_for s n) _ s.me n key 0 (waits s n)
-step_seat s (Command n (command.Insert file copies bytes)) = insert_seat s (waits_for s n) _ s.me n 0 file copies bytes (waits s n)
-step_seat s (Command n (command.Fetch file)) = fetch_seat s (waits_for s n) _ s.me n 0 file (waits s n)
+step_seat s (Command n (command.Lookup key)) = lookup_seat s (waits_for s n) _ s.me n key 0 tt (waits s n)
+step_seat s (Command n (command.Insert file copies bytes)) = insert_seat s (waits_for s n) _ s.me n 0 file copies bytes tt (waits s n)
+step_seat s (Command n (command.Fetch file)) = fetch_seat s (waits_for s n) _ s.me n 0 file tt (waits s n)
 step_seat s (Command n command.GiveUp) = give_up_seat s n s.phase refl
-step_seat s (Command n (command.Reclaim file)) = reclaim_seat s (waits_for s n) _ s.me n 0 file (waits s n)
-step_seat s (Comes from (Lookup o n key hops)) = lookup_seat s s _ o n key hops (SameSeat-itself s)
-step_seat s (Comes from (LookupReply n r)) = reply_seat s _ n r
-step_seat s (Comes from (Insert o n hops file copies bytes)) = insert_seat s s _ o n hops file copies bytes (SameSeat-itself s)
-step_seat s (Comes from (InsertReply n r)) = reply_seat s _ n r
-step_seat s (Comes from (Fetch o n hops file)) = fetch_seat s s _ o n hops file (SameSeat-itself s)
-step_seat s (Comes from (FetchReply n r)) = reply_seat s _ n r
+step_seat s (Command n (command.Reclaim file)) = reclaim_seat s (waits_for s n) _ s.me n 0 file tt (waits s n)
+step_seat s (Comes from (Lookup o n key hops)) = lookup_seat s s _ o n key hops tt (SameSeat-itself s)
+step_seat s (Comes from (LookupReply n r)) = reply_seat s _ tt n r
+step_seat s (Comes from (Insert o n hops file copies bytes)) = insert_seat s s _ o n hops file copies bytes tt (SameSeat-itself s)
+step_seat s (Comes from (InsertReply n r)) = reply_seat s _ tt n r
+step_seat s (Comes from (Fetch o n hops file)) = fetch_seat s s _ o n hops file tt (SameSeat-itself s)
+step_seat s (Comes from (FetchReply n r)) = reply_seat s _ tt n r
 step_seat s (Comes from (JoinRequest j a hops)) = request_seat s from j a hops (way_of s j) refl
 step_seat s (Comes from (JoinReply a heard)) = join_reply_seat s from a heard s.phase refl
 step_seat s (Comes from (JoinRefuse a w)) = refuse_seat s from a w s.phase refl
@@ -429,8 +426,8 @@ step_seat s (Comes from (Handover file bytes)) = handover_seat s from file bytes
 step_seat s (Comes from (Release a)) = released s from a
 step_seat s (Comes from (Confirm a)) = confirm_seat s from a s.phase refl
 step_seat s (Comes from Announce) = announced s from
-step_seat s (Comes from (Replicate o n file bytes)) = replicate_seat s _ from o n file bytes (slot_of s.files file)
-step_seat s (Comes from (ReplicaAck o n file)) = ack_seat s _ from (position (awaits from o n file) s.pending)
-step_seat s (Comes from (Reclaim o n hops file)) = reclaim_seat s s _ o n hops file (SameSeat-itself s)
-step_seat s (Comes from (ReclaimReply n r)) = reply_seat s _ n r
+step_seat s (Comes from (Replicate o n file bytes)) = replicate_seat s _ tt from o n file bytes (slot_of s.files file)
+step_seat s (Comes from (ReplicaAck o n file)) = ack_seat s _ tt from (position (awaits from o n file) s.pending)
+step_seat s (Comes from (Reclaim o n hops file)) = reclaim_seat s s _ o n hops file tt (SameSeat-itself s)
+step_seat s (Comes from (ReclaimReply n r)) = reply_seat s _ tt n r
 step_seat s Noise = unmoved s _

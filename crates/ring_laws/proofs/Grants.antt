@@ -125,7 +125,7 @@ new_has s t from a l r x y lists f e g =
       same false = e
 
 pub seat_grants : (s : State) (i : Input) (o : Outcome) → Seat s i o → AllGranted o.state o.sends
-seat_grants _ _ _ (row.serves s i o e f g) = record { each = Each-weaker (λ m. IsService m.message) (λ m. GrantedBy o.state m.receiver m.message) o.sends (λ m. service_granted o.state m.receiver m.message) f.each }
+seat_grants _ _ _ (row.serves s i o e f g q) = record { each = Each-weaker (λ m. IsService m.message) (λ m. GrantedBy o.state m.receiver m.message) o.sends (λ m. service_granted o.state m.receiver m.message) f.each }
 seat_grants _ _ _ (row.stops_leasing s n a m l r fl fr e) = record { each = to_both_granted _ l r (Release a) (λ y. tt) }
 seat_grants _ _ _ (row.probes s from a m heard known y ys e f g) = record { each = to_each_granted _ (y ∷ ys) (Probe a) (λ y. tt) }
 seat_grants _ _ _ (row.probes_on s from a m heard known old probed new e f g h) = record { each = to_each_granted _ new (Probe a) (λ y. tt) }
@@ -216,7 +216,7 @@ kept_then F i p from a n l r fl fr lists e b h =
     )
 
 pub seat_kept : (F : ℕ → State) (i : ℕ) (s : State) (j : Input) (o : Outcome) → Seat s j o → Brings F i s.phase j → PhaseKept F i s.phase → PhaseKept F i o.state.phase
-seat_kept F i _ _ _ (row.serves s j o e f g) b h = kept_at F i s.phase o.state.phase h (sym e.phase)
+seat_kept F i _ _ _ (row.serves s j o e f g q) b h = kept_at F i s.phase o.state.phase h (sym e.phase)
 seat_kept F i _ _ _ (row.begins s n via a e f) b h = tt
 seat_kept F i _ _ _ (row.stops_asking s n a m e) b h = tt
 seat_kept F i _ _ _ (row.stops_probing s n a m probed e) b h = tt
@@ -243,7 +243,7 @@ both_unready : (F : ℕ → State) (i : ℕ) (s : State) (o : Outcome) (p : Phas
 both_unready F i s o p e f g = is_same (g ∙ sym (ap is_ready e ∙ f))
 
 pub seat_becomes : (F : ℕ → State) (i : ℕ) (s : State) (j : Input) (o : Outcome) → Seat s j o → Brings F i s.phase j → PhaseKept F i s.phase → Becomes F i s o
-seat_becomes F i _ _ _ (row.serves s j o e f g) b h = is_same (ap is_ready e.phase)
+seat_becomes F i _ _ _ (row.serves s j o e f g q) b h = is_same (ap is_ready e.phase)
 seat_becomes F i _ _ _ (row.begins s n via a e f) b h = both_unready F i s _ _ e refl refl
 seat_becomes F i _ _ _ (row.stops_asking s n a m e) b h = both_unready F i s _ _ e refl refl
 seat_becomes F i _ _ _ (row.stops_probing s n a m probed e) b h = both_unready F i s _ _ e refl refl

@@ -148,8 +148,9 @@ ready_tell R x a l r ys h = both R x (to_both l r (Confirm a)) _ (to_both_tell R
 
 -- one step keeps it, where the node itself is ready if it is ready afterwards
 pub seat_knows : (R : ℕ → Type 0) (s : State) (i : Input) (o : Outcome) → Seat s i o → (is_ready o.state.phase ≡ true → R s.me) → Knows R s → InputTells R i → Kept R s.me o
-seat_knows R _ _ _ (row.serves s i o e f g) me k t =
+seat_knows R _ _ _ (row.serves s i o e f g q) me k t =
     still R s s.me o k e.known e.phase (record { each = Each-weaker (λ m. IsService m.message) (λ m. Tells R s.me m.message) o.sends (λ m. service_tells R s.me m.message) f.each })
+seat_knows R _ _ _ (row.unmoved s i) me k t = still R s s.me _ k refl refl (none R s.me)
 seat_knows R _ _ _ (row.request_on s from j a hops y e) me k t = still R s s.me _ k refl refl (more R s.me _ _ tt (none R s.me))
 seat_knows R _ _ _ (row.request_served s from j a hops b l r e w) me k t =
     still R s s.me _ k refl refl (more R s.me _ _ ((me (rw e refl), Each-leaves R s.me s.known k.known), me (rw e refl)) (none R s.me))

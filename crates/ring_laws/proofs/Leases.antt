@@ -261,7 +261,7 @@ lease_on-confirmed s from a b x y true = refl
 lease_on-confirmed s from a b x y false = refl
 
 pub seat_fits : (s : State) (i : Input) (o : Outcome) → Seat s i o → LeasesFit s → LeasesFit o.state
-seat_fits _ _ _ (row.serves s i o e f g) h = same_fits s o.state e h
+seat_fits _ _ _ (row.serves s i o e f g q) h = same_fits s o.state e h
 seat_fits _ _ _ (row.begins s n via a e f) h = none_fits s _ (is_unready s _ e refl) (lease_on-but s _ refl refl) h
 seat_fits _ _ _ (row.stops_asking s n a m e) h = none_fits s _ (is_unready s _ e refl) (lease_on-but s _ refl refl) h
 seat_fits _ _ _ (row.stops_probing s n a m probed e) h = none_fits s _ (is_unready s _ e refl) (lease_on-but s _ refl refl) h
@@ -324,7 +324,7 @@ without_lease test s right lease at f = lease_on-without test s right ∙ unless
 
 -- a lease lasts in each step that spares it
 pub seat_lasts : (s : State) (i : Input) (o : Outcome) → Seat s i o → (right : Bool) (lease : Lease) → lease_on right s ≡ Some lease → Spares lease.gate i → lease_on right o.state ≡ Some lease
-seat_lasts _ _ _ (row.serves s i o e f g) right lease at h = moved_lease s o.state right lease at e.left_gate e.right_gate
+seat_lasts _ _ _ (row.serves s i o e f g q) right lease at h = moved_lease s o.state right lease at e.left_gate e.right_gate
 seat_lasts _ _ _ (row.grant_readies s t from a m l r fl fr left' right' manifest tombs e f g k i) right lease at h =
     moved_lease s _ right lease at (ap (λ (u : State). u.left_gate) f) (ap (λ (u : State). u.right_gate) f)
 seat_lasts _ _ _ (row.lease_busy s from a l r b x y j e f) right lease at h = without_lease (is_older from a) s right lease at h
@@ -388,7 +388,7 @@ new_all P c from a l r lists p h = record {
 
 -- what holds of each gate holds of each after a step, if it holds of what the input asks for
 pub seat_gates : (P : Gate → Type 0) (s : State) (i : Input) (o : Outcome) → Seat s i o → Asks P i → AllGates P s → AllGates P o.state
-seat_gates P _ _ _ (row.serves s i o e f g) p h = moved_gates P s o.state e.left_gate e.right_gate h
+seat_gates P _ _ _ (row.serves s i o e f g q) p h = moved_gates P s o.state e.left_gate e.right_gate h
 seat_gates P _ _ _ (row.grant_readies s t from a m l r fl fr left right manifest tombs e f g k i) p h =
     moved_gates P s _ (ap (λ (u : State). u.left_gate) f) (ap (λ (u : State). u.right_gate) f) h
 seat_gates P _ _ _ (row.lease_busy s from a l r b x y j e f) p h = without_all P (is_older from a) s h

@@ -101,7 +101,7 @@ confirmed_link me known from a g y h =
 
 -- the node is an identifier, and so is all that it knows afterwards
 pub seat_linked : (s : State) (i : Input) (o : Outcome) → Seat s i o → s.me < 2 ^ 128 → Each (λ y. y < 2 ^ 128) o.state.known → HasSome s.phase s.known → Linked s → Linked o.state
-seat_linked _ _ _ (row.serves s i o e f g) hm range some k = still s o.state k e.me e.known e.phase
+seat_linked _ _ _ (row.serves s i o e f g q) hm range some k = still s o.state k e.me e.known e.phase
 seat_linked _ _ _ (row.begins s n via a e f) hm range some k = record { unknown = k.unknown; phase = tt }
 seat_linked _ _ _ (row.stops_asking s n a m e) hm range some k = record { unknown = k.unknown; phase = tt }
 seat_linked _ _ _ (row.stops_probing s n a m probed e) hm range some k = record { unknown = k.unknown; phase = tt }

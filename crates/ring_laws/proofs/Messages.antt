@@ -60,7 +60,7 @@ attempt_grows states x i y = Moves-attempt _ _ (moved states x i y)
 -- ---- one step keeps it
 
 me_kept : (s : State) (i : Input) (o : Outcome) → Seat s i o → o.state.me ≡ s.me
-me_kept _ _ _ (row.serves s i o e f g) = e.me
+me_kept _ _ _ (row.serves s i o e f g q) = e.me
 me_kept _ _ _ (row.grant_readies s t from a m l r fl fr left right manifest tombs e f g h i) = ap (λ (u : State). u.me) f
 me_kept _ _ _ m = refl
 

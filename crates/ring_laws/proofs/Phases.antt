@@ -20,7 +20,7 @@ pub data Moves : Phase → Phase → Type 0 where
   stops_leasing : (a n l r : ℕ) (from_left from_right : Option Lists) → Moves (Leasing a n l r from_left from_right) (Waiting (a + 1))
 
 pub seat_moves : (s : State) (i : Input) (o : Outcome) → Seat s i o → Moves s.phase o.state.phase
-seat_moves _ _ _ (row.serves s i o e f g) = subst (λ q. Moves s.phase q) (sym e.phase) (stays s.phase)
+seat_moves _ _ _ (row.serves s i o e f g q) = subst (λ q. Moves s.phase q) (sym e.phase) (stays s.phase)
 seat_moves _ _ _ (row.begins s n via a e f) = rw e (begins a n)
 seat_moves _ _ _ (row.stops_asking s n a m e) = rw e (stops_asking a m)
 seat_moves _ _ _ (row.stops_probing s n a m probed e) = rw e (stops_probing a m probed)

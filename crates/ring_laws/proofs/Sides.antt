@@ -159,7 +159,7 @@ cleared_has right P attempt s from a le h = subst (HasSide right P attempt s.me)
 
 pub seat_sides : (right : Bool) (P : ℕ → Type 0) (attempt : ℕ → ℕ) (s : State) (i : Input) (o : Outcome) → Seat s i o → is_ready s.phase ≡ true → InRing P → P s.me → InputKeeps P attempt i →
     HasSide right P attempt s.me (side_of s right) → HasSide right P attempt s.me (side_of o.state right)
-seat_sides right P attempt _ _ _ (row.serves s i o e f g) ready range px k h = subst (HasSide right P attempt s.me) (sym (side_but s o.state right e.phase e.left_gate e.right_gate)) h
+seat_sides right P attempt _ _ _ (row.serves s i o e f g q) ready range px k h = subst (HasSide right P attempt s.me) (sym (side_but s o.state right e.phase e.left_gate e.right_gate)) h
 seat_sides right P attempt _ _ _ (row.begins s n via a e f) ready range px k h = unless_ready s _ ready e refl
 seat_sides right P attempt _ _ _ (row.stops_asking s n a m e) ready range px k h = unless_ready s _ ready e refl
 seat_sides right P attempt _ _ _ (row.stops_probing s n a m probed e) ready range px k h = unless_ready s _ ready e refl

@@ -75,7 +75,7 @@ ready_show : (a l r : ℕ) (ys : List ℕ) → AllShow (Ready a l r) (to_both l 
 ready_show a l r ys = both (Ready a l r) (to_both l r (Confirm a)) _ (to_both_show (Ready a l r) l r (Confirm a) refl) (to_each_show (Ready a l r) ys Announce tt)
 
 pub seat_shows : (s : State) (i : Input) (o : Outcome) → Seat s i o → AllShow o.state.phase o.sends
-seat_shows _ _ _ (row.serves s i o e f g) = services_show _ _ f.each
+seat_shows _ _ _ (row.serves s i o e f g q) = services_show _ _ f.each
 seat_shows _ _ _ (row.stops_leasing s n a m l r fl fr e) = to_both_show (Waiting (a + 1)) l r (Release a) (omega arith)
 seat_shows _ _ _ (row.probes s from a m heard known y ys e f g) = to_each_show _ (y ∷ ys) (Probe a) tt
 seat_shows _ _ _ (row.probes_on s from a m heard known old probed new e f g h) = to_each_show _ new (Probe a) tt
