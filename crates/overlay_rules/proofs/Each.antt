@@ -1,5 +1,5 @@
 -- What holds of each item of a list, by cases on the list, so that it computes on written lists; std's `All` is by index.
-use Rattle.std.proofs.Common.{◌≡◌, ℕ, zero, suc, Bool, true, false, List, [], ◌∷◌, ◌++◌, ◌<◌, map, filter, take, Option, Some, None, slice_get, get_or, length, Contains, All, refl, subst, arith}
+use Rattle.std.proofs.Common.{◌≡◌, ℕ, zero, suc, Bool, true, false, List, [], ◌∷◌, ◌++◌, ◌<◌, map, filter, take, drop, Option, Some, None, slice_get, get_or, length, Contains, All, refl, subst, arith}
 use Rattle.std.proofs.lemmas.Bool.{cond_both}
 
 abbrev pub Each : {A : Type 0} → (A → Type 0) → List A → Type 0
@@ -23,6 +23,11 @@ module _ {A : Type 0} (P : A → Type 0) where
   Each-take zero xs h = tt
   Each-take (suc n) [] h = tt
   Each-take (suc n) (x ∷ xs) h = (h.0, Each-take n xs h.1)
+
+  pub Each-drop : (n : ℕ) (xs : List A) → Each P xs → Each P (drop n xs)
+  Each-drop zero xs h = h
+  Each-drop (suc n) [] h = tt
+  Each-drop (suc n) (x ∷ xs) h = Each-drop n xs h.1
 
   pub Each-weaker : (Q : A → Type 0) (xs : List A) → ((x : A) → P x → Q x) → Each P xs → Each Q xs
   Each-weaker Q [] f h = tt

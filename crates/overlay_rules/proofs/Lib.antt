@@ -2,3 +2,4 @@ pub mod Each
 pub mod Histories
 pub mod Seat
 pub mod SeatStep
+pub mod Sends

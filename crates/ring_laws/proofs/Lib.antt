@@ -12,3 +12,5 @@ pub mod Sides
 pub mod Ring
 pub mod Owner
 pub mod Hops
+pub mod Requests
+pub mod Replies
