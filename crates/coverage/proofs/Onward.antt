@@ -11,7 +11,7 @@ use Rattle.coverage.specs.declared.Reach.{Reach}
 use Rattle.coverage.specs.declared.Hop.{Hop}
 use Rattle.coverage.specs.declared.Hop.TheVariants.{Here, Gap, To}
 use Rattle.coverage.specs.Coverage.{covers_of, gap_of}
-use Rattle.coverage.specs.Closest.{closest_in}
+use Rattle.coverage.specs.Closest.{closest_in, closest_from}
 use Rattle.coverage.specs.NextHop.{in_leaf_range, to_nearest, to_leaf, is_better, to_better, to_any, to_entry, by_prefix, onward, unless_gap, next_hop_of}
 use Rattle.coverage.proofs.Leaves.{nearest_first_least}
 use Rattle.coverage.proofs.Nearest.{closest_in-closest}
@@ -176,4 +176,52 @@ next_hop_goes_on r known key y g e =
     elim (cases_Bool (covers_of r key)) [
       | inl c ↦ let here : next_hop_of r known key ≡ Here = cond-true (covers_of r key) Here (unless_gap r known key (gap_of r key)) c in cc
       | inr out ↦ unless_goes r known key y (gap_of r key) g out refl (sym (cond-false (covers_of r key) Here (unless_gap r known key (gap_of r key)) out) ∙ e)
+    ]
+
+-- ---- and what Here and Gap say
+
+-- onward from a node with a nearer leaf is always to somebody
+leaf_to : (me : ℕ) (known : List ℕ) (key : ℕ) → NearerLeaf me known key → (y : ℕ) × (to_leaf me known key ≡ To y)
+leaf_to me known key h = by (leaves me known) h.is_leaf where
+  by : (xs : List ℕ) → Contains xs h.leaf → (y : ℕ) × (to_nearest (closest_in key xs) ≡ To y)
+  by [] c = absurd (Contains-none h.leaf c)
+  by (x ∷ xs) c = (closest_from key x xs, refl)
+
+better_to : (me : ℕ) (known : List ℕ) (key : ℕ) (o : Option ℕ) → NearerLeaf me known key → (y : ℕ) × (to_better me known key o ≡ To y)
+better_to me known key None h = leaf_to me known key h
+better_to me known key (Some x) h = (x, refl)
+
+entry_to : (me : ℕ) (known : List ℕ) (key : ℕ) (o : Option ℕ) → NearerLeaf me known key → (y : ℕ) × (to_entry me known key o ≡ To y)
+entry_to me known key None h = better_to me known key (closest_in key (filter (is_better me key) (leaves me known ++ entries_of me known))) h
+entry_to me known key (Some x) h =
+    cond_both (is_nearer x me key) (To x) (to_any me known key) (λ (z : Hop). (y : ℕ) × (z ≡ To y)) (λ _. (x, refl))
+    (λ _. better_to me known key (closest_in key (filter (is_better me key) (leaves me known ++ entries_of me known))) h)
+
+onward_to : (me : ℕ) (known : List ℕ) (key : ℕ) → NearerLeaf me known key → (y : ℕ) × (onward me known key ≡ To y)
+onward_to me known key h =
+    cond_both (in_leaf_range me known key) (to_leaf me known key) (by_prefix me known key) (λ (z : Hop). (y : ℕ) × (z ≡ To y)) (λ _. leaf_to me known key h)
+    (λ _. entry_to me known key (entry_of me known (shared_of me key) (digit_of key (shared_of me key))) h)
+
+unless_here : (r : Reach) (known : List ℕ) (key : ℕ) (o : Option ℕ) → CanGoOn r known key → covers_of r key ≡ false → gap_of r key ≡ o → unless_gap r known key o ≡ Here → ⊥
+unless_here r known key None g out none e = let to = onward_to r.me known key (nearer_leaf r known key g out none) in let f = to.1 in cc
+unless_here r known key (Some j) g out gap e = cc
+
+-- where the next hop is Here the node covers the key
+pub next_hop-here : (r : Reach) (known : List ℕ) (key : ℕ) → CanGoOn r known key → next_hop_of r known key ≡ Here → covers_of r key ≡ true
+next_hop-here r known key g e =
+    true_from_ne_false (covers_of r key) (λ out. unless_here r known key (gap_of r key) g out refl (sym (cond-false (covers_of r key) Here (unless_gap r known key (gap_of r key)) out) ∙ e))
+
+same_gap : (i j : ℕ) → Gap i ≡ Gap j → i ≡ j
+same_gap i j e = cc
+
+unless_gap_is : (r : Reach) (known : List ℕ) (key j : ℕ) (o : Option ℕ) → CanGoOn r known key → covers_of r key ≡ false → gap_of r key ≡ o → unless_gap r known key o ≡ Gap j → gap_of r key ≡ Some j
+unless_gap_is r known key j None g out none e = let to = onward_to r.me known key (nearer_leaf r known key g out none) in let f = to.1 in cc
+unless_gap_is r known key j (Some i) g out gap e = gap ∙ ap Some (same_gap i j e)
+
+-- and where it is Gap, the key is in the gap of that joiner
+pub next_hop-gap : (r : Reach) (known : List ℕ) (key j : ℕ) → CanGoOn r known key → next_hop_of r known key ≡ Gap j → gap_of r key ≡ Some j
+next_hop-gap r known key j g e =
+    elim (cases_Bool (covers_of r key)) [
+      | inl c ↦ let here : next_hop_of r known key ≡ Here = cond-true (covers_of r key) Here (unless_gap r known key (gap_of r key)) c in cc
+      | inr out ↦ unless_gap_is r known key j (gap_of r key) g out refl (sym (cond-false (covers_of r key) Here (unless_gap r known key (gap_of r key)) out) ∙ e)
     ]

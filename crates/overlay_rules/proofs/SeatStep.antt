@@ -194,7 +194,7 @@ way_by-ready hop.Here e = cc
 way_by-ready (hop.Gap j) e = cc
 way_by-ready (hop.To y) e = cc
 
-unready_way : (s : State) (key : ℕ) (p : Phase) → way_in s key p ≡ way.NotReady → is_ready p ≡ false
+pub unready_way : (s : State) (key : ℕ) (p : Phase) → way_in s key p ≡ way.NotReady → is_ready p ≡ false
 unready_way s key (Ready b l r) e = absurd (way_by-ready _ e)
 unready_way s key (Waiting a) e = refl
 unready_way s key (Asking a m) e = refl

@@ -14,3 +14,4 @@ pub mod Owner
 pub mod Hops
 pub mod Requests
 pub mod Replies
+pub mod Lookups

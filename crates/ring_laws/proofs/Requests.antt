@@ -77,7 +77,7 @@ InputCarries Q L me (Comes from m) = Carries Q L me m
 InputCarries Q L me (Command n c) = CommandCarries Q L me n c
 InputCarries Q L me Noise = Unit {0}
 
--- how a lookup of the key is answered at s, with these notes
+-- how a lookup of the key is answered where the state becomes s, with these notes
 abbrev pub LookupAnswer : State → List Note → ℕ → ℕ → ℕ → Reply → Type 0
 LookupAnswer s notes o n key (reply.Delivered y hops) = (y ≡ s.me) × Contains notes (note.Delivered o n key hops)
 LookupAnswer s notes o n key (reply.Busy y j) = (y ≡ s.me) × (way_of s key ≡ way.Gap j)
@@ -114,7 +114,7 @@ NoteCarries Q L s notes (note.Reclaimed file) = Unit {0}
 pub record Requested (Q : ℕ → ℕ → NodeCommand → Type 0) (L : ℕ → ℕ → ℕ → ℕ → ℕ → Type 0) (s : State) (o : Outcome) : Type 0 where
   pub sends : Each (λ m. Carries Q L m.receiver m.message) o.sends
   pub pending : Each (AsksFor Q) o.state.pending
-  pub notes : Each (NoteCarries Q L s o.notes) o.notes
+  pub notes : Each (NoteCarries Q L o.state o.notes) o.notes
 
 -- a lookup that is passed on shows at the next node what it must
 pub record PassesOn (L : ℕ → ℕ → ℕ → ℕ → ℕ → Type 0) (s : State) : Type 0 where
@@ -143,7 +143,7 @@ module _ (Q : ℕ → ℕ → NodeCommand → Type 0) (L : ℕ → ℕ → ℕ �
   file_note s notes (note.Reclaimed file) h = tt
 
   from_files : (s : State) (o : Outcome) → OfFiles Q L o → Requested Q L s o
-  from_files s o h = record { sends = h.sends; pending = h.pending; notes = Each-weaker (FileNote Q) (NoteCarries Q L s o.notes) o.notes (file_note s o.notes) h.notes }
+  from_files s o h = record { sends = h.sends; pending = h.pending; notes = Each-weaker (FileNote Q) (NoteCarries Q L o.state o.notes) o.notes (file_note o.state o.notes) h.notes }
 
   reply_carries : (what : Asked) (to n : ℕ) (r : Reply) → Carries Q L to (reply_message what n r)
   reply_carries asked.Lookup to n r = tt
