@@ -214,14 +214,33 @@ next_hop-here r known key g e =
 same_gap : (i j : ℕ) → Gap i ≡ Gap j → i ≡ j
 same_gap i j e = cc
 
-unless_gap_is : (r : Reach) (known : List ℕ) (key j : ℕ) (o : Option ℕ) → CanGoOn r known key → covers_of r key ≡ false → gap_of r key ≡ o → unless_gap r known key o ≡ Gap j → gap_of r key ≡ Some j
-unless_gap_is r known key j None g out none e = let to = onward_to r.me known key (nearer_leaf r known key g out none) in let f = to.1 in cc
-unless_gap_is r known key j (Some i) g out gap e = gap ∙ ap Some (same_gap i j e)
+leaf_gap : (o : Option ℕ) (j : ℕ) → to_nearest o ≡ Gap j → ⊥
+leaf_gap None j e = cc
+leaf_gap (Some y) j e = cc
+
+better_gap : (me : ℕ) (known : List ℕ) (key j : ℕ) (o : Option ℕ) → to_better me known key o ≡ Gap j → ⊥
+better_gap me known key j None e = leaf_gap (closest_in key (leaves me known)) j e
+better_gap me known key j (Some y) e = cc
+
+entry_gap : (me : ℕ) (known : List ℕ) (key j : ℕ) (o : Option ℕ) → to_entry me known key o ≡ Gap j → ⊥
+entry_gap me known key j None e = better_gap me known key j (closest_in key (filter (is_better me key) (leaves me known ++ entries_of me known))) e
+entry_gap me known key j (Some y) e =
+    cond_both (is_nearer y me key) (To y) (to_any me known key) (λ (z : Hop). z ≡ Gap j → ⊥) (λ _ f. cc)
+    (λ _. better_gap me known key j (closest_in key (filter (is_better me key) (leaves me known ++ entries_of me known)))) e
+
+onward_gap : (me : ℕ) (known : List ℕ) (key j : ℕ) → onward me known key ≡ Gap j → ⊥
+onward_gap me known key j e =
+    cond_both (in_leaf_range me known key) (to_leaf me known key) (by_prefix me known key) (λ (z : Hop). z ≡ Gap j → ⊥) (λ _. leaf_gap (closest_in key (leaves me known)) j)
+    (λ _. entry_gap me known key j (entry_of me known (shared_of me key) (digit_of key (shared_of me key)))) e
+
+unless_gap_is : (r : Reach) (known : List ℕ) (key j : ℕ) (o : Option ℕ) → gap_of r key ≡ o → unless_gap r known key o ≡ Gap j → gap_of r key ≡ Some j
+unless_gap_is r known key j None none e = absurd (onward_gap r.me known key j e)
+unless_gap_is r known key j (Some i) gap e = gap ∙ ap Some (same_gap i j e)
 
 -- and where it is Gap, the key is in the gap of that joiner
-pub next_hop-gap : (r : Reach) (known : List ℕ) (key j : ℕ) → CanGoOn r known key → next_hop_of r known key ≡ Gap j → gap_of r key ≡ Some j
-next_hop-gap r known key j g e =
+pub next_hop-gap : (r : Reach) (known : List ℕ) (key j : ℕ) → next_hop_of r known key ≡ Gap j → gap_of r key ≡ Some j
+next_hop-gap r known key j e =
     elim (cases_Bool (covers_of r key)) [
       | inl c ↦ let here : next_hop_of r known key ≡ Here = cond-true (covers_of r key) Here (unless_gap r known key (gap_of r key)) c in cc
-      | inr out ↦ unless_gap_is r known key j (gap_of r key) g out refl (sym (cond-false (covers_of r key) Here (unless_gap r known key (gap_of r key)) out) ∙ e)
+      | inr out ↦ unless_gap_is r known key j (gap_of r key) refl (sym (cond-false (covers_of r key) Here (unless_gap r known key (gap_of r key)) out) ∙ e)
     ]

@@ -15,3 +15,4 @@ pub mod Hops
 pub mod Requests
 pub mod Replies
 pub mod Lookups
+pub mod Closings
