@@ -64,6 +64,35 @@ sent_at (e ∷ es) m v h =
           }
     ]
 
+take_take : {A : Type 0} (j i : ℕ) (xs : List A) → j ≤ i → take j (take i xs) ≡ take j xs
+take_take zero i xs le = refl
+take_take (suc j) zero xs le = absurd (omega arith)
+take_take (suc j) (suc i) [] le = refl
+take_take (suc j) (suc i) (x ∷ xs) le = ap (λ ys. x ∷ ys) (take_take j i xs (omega arith))
+
+get_take : {A : Type 0} (i j : ℕ) (xs : List A) (x : A) → slice_get (take i xs) j ≡ Some x → (j < i) × (slice_get xs j ≡ Some x)
+get_take zero j xs x e = cc
+get_take (suc i) j [] x e = cc
+get_take (suc i) zero (y ∷ ys) x e = (omega arith, e)
+get_take (suc i) (suc j) (y ∷ ys) x e = let rest = get_take i j ys x e in let lt = rest.0 in (omega arith, rest.1)
+
+-- what was sent before entry i has its entry before that
+pub sent_before : (es : List Entry) (i m : ℕ) (v : Envelope) → slice_get (sent_in (take i es)) m ≡ Some v → IsSentAt es m v
+sent_before es i m v e =
+    let h = sent_at (take i es) m v e in
+    let found = get_take i h.place es h.entry h.at in
+    let lt = found.0 in
+    record {
+      place = h.place;
+      entry = h.entry;
+      at = found.1;
+      sent = (
+          subst (λ fs. length (sent_in fs) ≤ m) (take_take h.place i es (omega arith)) h.sent.0,
+          subst (λ fs. m < length (sent_in fs)) (take_take (h.place + 1) i es (omega arith)) h.sent.1
+        );
+      has = h.has;
+    }
+
 -- ---- the worlds of a record
 
 pub run-append : (w : World) (es fs : List Entry) → run w (es ++ fs) ≡ run (run w es) fs

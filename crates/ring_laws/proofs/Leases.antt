@@ -145,7 +145,7 @@ bare-none : (o : Option Lease) → bare o ≡ None → o ≡ None
 bare-none None e = refl
 bare-none (Some g) e = cc
 
-bare-unless : (test : Gate → Bool) (o : Option Lease) → bare (unless_lease test o) ≡ unless test (bare o)
+pub bare-unless : (test : Gate → Bool) (o : Option Lease) → bare (unless_lease test o) ≡ unless test (bare o)
 bare-unless test None = refl
 bare-unless test (Some g) = elim (cases_Bool (test g.gate)) [
   | inl e ↦ ap bare (cond-true (test g.gate) None (Some g) e) ∙ sym (cond-true (test g.gate) None (Some g.gate) e)

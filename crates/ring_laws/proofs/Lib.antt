@@ -16,3 +16,5 @@ pub mod Requests
 pub mod Replies
 pub mod Lookups
 pub mod Closings
+pub mod Causes
+pub mod JoinNumbers
