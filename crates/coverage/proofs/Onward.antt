@@ -144,6 +144,7 @@ any_goes : (me : ℕ) (known : List ℕ) (key y : ℕ) → NearerLeaf me known k
 any_goes me known key y h e = by (closest_in key better) refl e where
   better : List ℕ
   better = filter (is_better me key) (leaves me known ++ entries_of me known)
+
   by : (o : Option ℕ) → closest_in key better ≡ o → to_better me known key o ≡ To y → GoesOn me known key y
   by None f g = leaf_goes me known key y h g
   by (Some x) f g = subst (GoesOn me known key) (same_hop x y g) (better-known me known key x (closest_in-closest better key x f).member)
@@ -155,7 +156,7 @@ prefix_goes me known key y h e = by (entry_of me known (shared_of me key) (digit
   by (Some x) f g =
       elim (cases_Bool (is_nearer x me key)) [
         | inl n ↦ subst (GoesOn me known key) (same_hop x y (sym (cond-true (is_nearer x me key) (To x) (to_any me known key) n) ∙ g))
-          (record { known_to_me = found-known (belongs me (shared_of me key) (digit_of key (shared_of me key))) known x f; nearer = n })
+            (record { known_to_me = found-known (belongs me (shared_of me key) (digit_of key (shared_of me key))) known x f; nearer = n })
         | inr n ↦ any_goes me known key y h (sym (cond-false (is_nearer x me key) (To x) (to_any me known key) n) ∙ g)
       ]
 

@@ -87,9 +87,9 @@ sent_before es i m v e =
       entry = h.entry;
       at = found.1;
       sent = (
-          subst (λ fs. length (sent_in fs) ≤ m) (take_take h.place i es (omega arith)) h.sent.0,
-          subst (λ fs. m < length (sent_in fs)) (take_take (h.place + 1) i es (omega arith)) h.sent.1
-        );
+        subst (λ fs. length (sent_in fs) ≤ m) (take_take h.place i es (omega arith)) h.sent.0,
+        subst (λ fs. m < length (sent_in fs)) (take_take (h.place + 1) i es (omega arith)) h.sent.1,
+      );
       has = h.has;
     }
 

@@ -46,9 +46,9 @@ gap_shown : (s : State) (key j : ℕ) (p : Phase) → s.phase ≡ p → way_in s
 gap_shown s key j (Ready a l r) e f =
     let found = gap_of-some (reach s l r) key j (next_hop-gap (reach s l r) s.known key j (to_gap (next_hop_of (reach s l r) s.known key) j f)) in
     (a, (l, (r, (e, side found.0.0 found.0.1, found.1)))) where
-  side : (right : Bool) → joiner_on right (reach s l r) ≡ Some j → (joiner_of s.left_gate ≡ Some j) ⊎ (joiner_of s.right_gate ≡ Some j)
-  side true g = inr g
-  side false g = inl g
+      side : (right : Bool) → joiner_on right (reach s l r) ≡ Some j → (joiner_of s.left_gate ≡ Some j) ⊎ (joiner_of s.right_gate ≡ Some j)
+      side true g = inr g
+      side false g = inl g
 gap_shown s key j (Waiting a) e f = cc
 gap_shown s key j (Asking a n) e f = cc
 gap_shown s key j (Probing a n probed) e f = cc
@@ -72,11 +72,13 @@ busy_with-some true None j e = cc
 busy_with-some false o j e = cc
 
 blocked_is_why : (s : State) (from a l r b x y j : ℕ) → s.phase ≡ Ready b x y → blocked_by (links_of s x y) s.me from a l r ≡ Some j → ShowsWhy (cleared s from a) (why.Busy j)
-blocked_is_why s from a l r b x y j e f =
-    (ap is_ready e, elim (or_else-some (busy_with (s.me == l) (unless (is_older from a) (bare s.right_gate))) (busy_with (s.me == r) (unless (is_older from a) (bare s.left_gate))) j f) [
-      | inl h ↦ inr (busy_with-some (s.me == l) (unless_lease (is_older from a) s.right_gate) j (ap (busy_with (s.me == l)) (bare-unless (is_older from a) s.right_gate) ∙ h))
-      | inr h ↦ inl (busy_with-some (s.me == r) (unless_lease (is_older from a) s.left_gate) j (ap (busy_with (s.me == r)) (bare-unless (is_older from a) s.left_gate) ∙ h))
-    ])
+blocked_is_why s from a l r b x y j e f = (
+  ap is_ready e,
+  elim (or_else-some (busy_with (s.me == l) (unless (is_older from a) (bare s.right_gate))) (busy_with (s.me == r) (unless (is_older from a) (bare s.left_gate))) j f) [
+    | inl h ↦ inr (busy_with-some (s.me == l) (unless_lease (is_older from a) s.right_gate) j (ap (busy_with (s.me == l)) (bare-unless (is_older from a) s.right_gate) ∙ h))
+    | inr h ↦ inl (busy_with-some (s.me == r) (unless_lease (is_older from a) s.left_gate) j (ap (busy_with (s.me == r)) (bare-unless (is_older from a) s.left_gate) ∙ h))
+  ],
+)
 
 -- ---- every row
 
@@ -141,8 +143,10 @@ seat_caused _ _ _ (row.lease_moved s from a l r b x y e) = record { each = ((b, 
 seat_caused _ _ _ (row.lease_again s from a l r b x y e f) =
     record { each = granted_sends (λ m. HasCause s m.message) from a (lists_of (if s.me == l then s.right_gate else s.left_gate)) s.files tt (λ m. service_caused s m.message) }
 seat_caused _ _ _ (row.lease_new s from a l r b x y e f g) =
-    record { each = newly_gated_sends (λ m. HasCause (newly_gated (cleared s from a) x y from a l r).state m.message) (cleared s from a) x y from a l r tt
-        (λ m. service_caused (newly_gated (cleared s from a) x y from a l r).state m.message) }
+    record {
+      each = newly_gated_sends (λ m. HasCause (newly_gated (cleared s from a) x y from a l r).state m.message) (cleared s from a) x y from a l r tt
+          (λ m. service_caused (newly_gated (cleared s from a) x y from a l r).state m.message);
+    }
 seat_caused _ _ _ m = record { each = search rules }
 
 -- ---- over every legal record
@@ -154,15 +158,17 @@ record ShowsCause (states : ℕ → State) (v : Envelope) : Type 0 where
 entry_causes : (g : Setting) (w : World) (e : Entry) → Follows g w e → Each (ShowsCause (after w e).states) e.messages
 entry_causes g w e f = subst (λ (v : World). Each (ShowsCause v.states) e.messages) (stepped-after g w e f)
     (each_envelope (ShowsCause next) x e.messages o.sends f.messages
-      (Each-weaker (λ m. HasCause o.state m.message) (λ m. (v : Envelope) → IsFrom x m v → ShowsCause next v) o.sends
-        (λ m c v k. record { cause = rw (k.sender, k.message) (subst (λ s. HasCause s m.message) (sym (state_at-itself w.states x o.state)) c) })
-        (seat_caused (w.states x) f.at.input o (step_seat (w.states x) f.at.input)).each)) where
-  x : ℕ
-  x = f.at.node
-  o : Outcome
-  o = step (w.states x) f.at.input
-  next : ℕ → State
-  next = state_at w.states x o.state
+    (Each-weaker (λ m. HasCause o.state m.message) (λ m. (v : Envelope) → IsFrom x m v → ShowsCause next v) o.sends
+    (λ m c v k. record { cause = rw (k.sender, k.message) (subst (λ s. HasCause s m.message) (sym (state_at-itself w.states x o.state)) c) })
+    (seat_caused (w.states x) f.at.input o (step_seat (w.states x) f.at.input)).each)) where
+      x : ℕ
+      x = f.at.node
+
+      o : Outcome
+      o = step (w.states x) f.at.input
+
+      next : ℕ → State
+      next = state_at w.states x o.state
 
 sent_cause : (g : Setting) (es : List Entry) (m : ℕ) (v : Envelope) → IsRecord g es → (h : IsSentAt es m v) → HasCause ((world_after g es (h.place + 1)).states v.sender) v.message
 sent_cause g es m v r h =

@@ -47,7 +47,7 @@ IsJoinOf (Ready a l r) m = ⊥
 pub data Closing (P : ℕ → Reply → Type 0) (s : State) (i : Input) (o : Outcome) : ℕ → Answer → Type 0 where
   by_reply : (n : ℕ) (r : Reply) → P n r → Closing P s i o n (answer.Reply r)
   by_joining : (a n l r : ℕ) (from_left from_right : Option Lists) → s.phase ≡ Leasing a n l r from_left from_right → o.state.phase ≡ Ready a l r →
-    o.state.left_gate ≡ s.left_gate → o.state.right_gate ≡ s.right_gate → Closing P s i o n (answer.Joined l r)
+      o.state.left_gate ≡ s.left_gate → o.state.right_gate ≡ s.right_gate → Closing P s i o n (answer.Joined l r)
   by_refusal : (from a n : ℕ) (w : Why) → i ≡ Comes from (JoinRefuse a w) → IsJoinOf s.phase n → Closing P s i o n (answer.Denied from w)
   by_denial : (from a n : ℕ) (w : Why) → i ≡ Comes from (Deny a w) → IsJoinOf s.phase n → Closing P s i o n (answer.Denied from w)
   by_giving_up : (n m : ℕ) → i ≡ Command m command.GiveUp → IsJoinOf s.phase n → is_joining s.phase ≡ true → Closing P s i o n (answer.Stopped s.me own.GivenUp)
@@ -140,8 +140,8 @@ module _ (P : ℕ → Reply → Type 0) where
   accepted_replies t o n file copies bytes =
       cond_both (has_room t.files) _ _ (AllReply P) (λ _. with_note _ (replicated_replies (record t { files = with_slot t.files file (Some bytes) }) o n file bytes (targets_of t file copies)))
       (λ _. record { each = (tt, tt) }) where
-    with_note : (x : Outcome) → AllReply P x → AllReply P (before [] (note.Accepted file bytes ∷ []) x)
-    with_note x h = record { each = (tt, h.each) }
+        with_note : (x : Outcome) → AllReply P x → AllReply P (before [] (note.Accepted file bytes ∷ []) x)
+        with_note x h = record { each = (tt, h.each) }
 
   inserted_replies : (t : State) (o n : ℕ) (file : List ℕ) (copies : ℕ) (bytes : List ℕ) (h : Option Slot) → AllReply P (inserted t o n file copies bytes h)
   inserted_replies t o n file copies bytes (Some None) = record { each = (tt, tt) }

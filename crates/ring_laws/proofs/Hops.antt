@@ -39,7 +39,7 @@ way_to s key y (Asking a n) e f = cc
 way_to s key y (Probing a n probed) e f = cc
 way_to s key y (Leasing a n l r fl fr) e f = cc
 
-can_go_on : (g : Setting) (w : World) (x key a l r : ℕ) → IsSetting g → MessagesHold g w → Contains g.nodes x → key < 2 ^ 128 → (w.states x).phase ≡ Ready a l r → CanGoOn (reach (w.states x) l r) (w.states x).known key
+pub can_go_on : (g : Setting) (w : World) (x key a l r : ℕ) → IsSetting g → MessagesHold g w → Contains g.nodes x → key < 2 ^ 128 → (w.states x).phase ≡ Ready a l r → CanGoOn (reach (w.states x) l r) (w.states x).known key
 can_go_on g w x key a l r set h member hk e = record {
   me = subst (λ y. y < 2 ^ 128) (sym (h.me x)) (in_ring g set x member);
   left = bound l links.0;
@@ -52,8 +52,10 @@ can_go_on g w x key a l r set h member hk e = record {
 } where
   bound : (y : ℕ) → ReadyIn w.states y → y < 2 ^ 128
   bound y ready = in_ring g set y (h.nodes y ready)
+
   links : ReadyIn w.states l × ReadyIn w.states r
   links = subst (PhaseKnows (ReadyIn w.states)) e (h.knows x).phase
+
   known : ((l ≡ (w.states x).me) ⊎ Contains (w.states x).known l) × ((r ≡ (w.states x).me) ⊎ Contains (w.states x).known r)
   known = subst (PhaseLinked (w.states x).me (w.states x).known) e (h.linked x).phase
 

@@ -18,3 +18,5 @@ pub mod Lookups
 pub mod Closings
 pub mod Causes
 pub mod JoinNumbers
+pub mod Notes
+pub mod Closed

@@ -186,6 +186,7 @@ input_carries : (g : Setting) (w : World) (e : Entry) (x : ℕ) (i : Input) → 
 input_carries g w e x i k t s l = by e.event refl x i t.arrives where
   v : World
   v = stepped w e x s
+
   by : (f : Event) → e.event ≡ f → (y : ℕ) (j : Input) → Arrives w f y j → InputCarries (WasCommanded v) (OnTheWay g v) y j
   by _ is _ _ (commanded y n c fresh) = command_carries g v y n c (e, Contains-push w.past e, is) (subst IsSaidBy is t.said)
   by _ is _ _ (noised y) = tt
@@ -198,8 +199,8 @@ requested g w e x i set h k t =
     seat_requested (WasCommanded v) (OnTheWay g v) (w.states x) i (step (w.states x) i) (step_seat (w.states x) i) refl (passes_on g w e x i set h t)
     (subst (λ y. InputCarries (WasCommanded v) (OnTheWay g v) y i) (sym (h.below.below.me x)) (input_carries g w e x i k t (step (w.states x) i).state (later g w e x i)))
     (Each-weaker (AsksFor (WasCommanded w)) (AsksFor (WasCommanded v)) (w.states x).pending (asks_later g w v (later g w e x i)) (k.pending x)) where
-  v : World
-  v = stepped w e x (step (w.states x) i).state
+      v : World
+      v = stepped w e x (step (w.states x) i).state
 
 noted_replied : (w : World) (e : Entry) (notes : List Note) (to : ℕ) (m : Message) → Contains w.past e → e.notes ≡ notes → IsNoted notes to m → IsReplied w to m
 noted_replied w e notes to (LookupReply n r) c f h = (e, (c, subst (λ ns. Contains ns (note.Answered to n r)) (sym f) h))
@@ -216,21 +217,26 @@ keeps g set w e x i h k t =
       pending = λ y. state_at-each (λ z (s : State). Each (AsksFor (WasCommanded v)) s.pending) w.states x o.state y new.pending
           (Each-weaker (AsksFor (WasCommanded w)) (AsksFor (WasCommanded v)) (w.states y).pending (asks_later g w v l) (k.pending y));
     } where
-  o : Outcome
-  o = step (w.states x) i
-  v : World
-  v = stepped w e x o.state
-  l : Later g w v
-  l = later g w e x i
-  new : Requested (WasCommanded v) (OnTheWay g v) (w.states x) o
-  new = requested g w e x i set h k t
-  old : Each (IsBehind g v) (sent_in w.past)
-  old = Each-weaker (IsBehind g w) (IsBehind g v) (sent_in w.past)
-      (λ u b. record { carries = carries_later g w v l u.receiver u.message b.carries; replied = replied_later g w v l u.receiver u.message b.replied }) k.sent
-  fresh : Each (IsBehind g v) e.messages
-  fresh = each_envelope (IsBehind g v) x e.messages o.sends t.messages
-      (Each-both (λ m. Carries (WasCommanded v) (OnTheWay g v) m.receiver m.message) (λ m. IsNoted o.notes m.receiver m.message) (λ m. (u : Envelope) → IsFrom x m u → IsBehind g v u) o.sends
-        (λ m p q u f. record {
+      o : Outcome
+      o = step (w.states x) i
+
+      v : World
+      v = stepped w e x o.state
+
+      l : Later g w v
+      l = later g w e x i
+
+      new : Requested (WasCommanded v) (OnTheWay g v) (w.states x) o
+      new = requested g w e x i set h k t
+
+      old : Each (IsBehind g v) (sent_in w.past)
+      old = Each-weaker (IsBehind g w) (IsBehind g v) (sent_in w.past)
+          (λ u b. record { carries = carries_later g w v l u.receiver u.message b.carries; replied = replied_later g w v l u.receiver u.message b.replied }) k.sent
+
+      fresh : Each (IsBehind g v) e.messages
+      fresh = each_envelope (IsBehind g v) x e.messages o.sends t.messages
+          (Each-both (λ m. Carries (WasCommanded v) (OnTheWay g v) m.receiver m.message) (λ m. IsNoted o.notes m.receiver m.message) (λ m. (u : Envelope) → IsFrom x m u → IsBehind g v u) o.sends
+          (λ m p q u f. record {
             carries = rw (f.receiver, f.message) p;
             replied = rw (f.receiver, f.message) (noted_replied v e o.notes m.receiver m.message (Contains-push w.past e) t.notes q);
           }) new.sends (seat_noted (w.states x) i o (step_seat (w.states x) i) refl).each)

@@ -129,10 +129,10 @@ insert_noted t o n hops file copies bytes =
 each_noted : (t : State) (r : Reply) (ps : List Pending) → Each (NotedBy (replied_each t r ps).notes) (replied_each t r ps).sends
 each_noted t r [] = tt
 each_noted t r (x ∷ xs) = (
-    first_of_notes (note.Answered x.origin x.number r) (replied_each t r xs).notes,
-    each_more (replied_each t r xs).notes (replied_each t r (x ∷ xs)).notes (replied_each t r xs).sends
+  first_of_notes (note.Answered x.origin x.number r) (replied_each t r xs).notes,
+  each_more (replied_each t r xs).notes (replied_each t r (x ∷ xs)).notes (replied_each t r xs).sends
       (λ n c. Contains-append_right (note.Answered x.origin x.number r ∷ []) (replied_each t r xs).notes n c) (each_noted t r xs),
-  )
+)
 
 reclaimed_noted : (t : State) (o n : ℕ) (file : List ℕ) (h : Option Slot) → AllNoted (reclaimed t o n file h)
 reclaimed_noted t o n file None = replied_noted t asked.Reclaim o n _
@@ -144,10 +144,13 @@ reclaimed_noted t o n file (Some (Some bytes)) = record {
 } where
   ps : List Pending
   ps = filter (is_of file) t.pending
+
   ended : Outcome
   ended = replied_each (emptied t file) (reply.Gone t.me) ps
+
   last : List Note
   last = note.Answered o n (reply.Reclaimed t.me) ∷ []
+
   all : List Note
   all = (note.Reclaimed file ∷ ended.notes) ++ last
 

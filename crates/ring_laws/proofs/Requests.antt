@@ -163,7 +163,7 @@ module _ (Q : ℕ → ℕ → NodeCommand → Type 0) (L : ℕ → ℕ → ℕ �
   answered t what o n r c k q p = record { sends = (reply_carries what o n r, tt); pending = p; notes = ((c, (k, q)), tt) }
 
   served_files : (t : State) (what : Asked) (o n : ℕ) (w : Way) (next : Message) (here : Outcome) (c : NodeCommand) → IsOfFiles c → Q o n c → Each (AsksFor Q) t.pending →
-    ((y : ℕ) → Carries Q L y next) → OfFiles Q L here → OfFiles Q L (served t what o n w next here)
+      ((y : ℕ) → Carries Q L y next) → OfFiles Q L here → OfFiles Q L (served t what o n w next here)
   served_files t what o n way.NotReady next here c k q p f h = answered t what o n (reply.NotReady t.me) c k q p
   served_files t what o n way.Here next here c k q p f h = h
   served_files t what o n (way.Gap j) next here c k q p f h = answered t what o n (reply.Busy t.me j) c k q p
@@ -189,16 +189,16 @@ module _ (Q : ℕ → ℕ → NodeCommand → Type 0) (L : ℕ → ℕ → ℕ �
       cond_both (has_room t.files) _ _ (OfFiles Q L)
       (λ _. with_note _ (replicated_files (record t { files = with_slot t.files file (Some bytes) }) o n file copies bytes (targets_of t file copies) q p))
       (λ _. answered t asked.Insert o n _ (command.Insert file copies bytes) tt q p) where
-    with_note : (x : Outcome) → OfFiles Q L x → OfFiles Q L (before [] (note.Accepted file bytes ∷ []) x)
-    with_note x h = record { sends = h.sends; pending = h.pending; notes = (tt, h.notes) }
+        with_note : (x : Outcome) → OfFiles Q L x → OfFiles Q L (before [] (note.Accepted file bytes ∷ []) x)
+        with_note x h = record { sends = h.sends; pending = h.pending; notes = (tt, h.notes) }
 
   inserted_files : (t : State) (o n : ℕ) (file : List ℕ) (copies : ℕ) (bytes : List ℕ) (h : Option Slot) → Q o n (command.Insert file copies bytes) → Each (AsksFor Q) t.pending →
-    OfFiles Q L (inserted t o n file copies bytes h)
+      OfFiles Q L (inserted t o n file copies bytes h)
   inserted_files t o n file copies bytes (Some None) q p = answered t asked.Insert o n _ (command.Insert file copies bytes) tt q p
   inserted_files t o n file copies bytes (Some (Some held)) q p =
       cond_both (not (same_bytes held bytes)) _ _ (OfFiles Q L) (λ _. answered t asked.Insert o n _ (command.Insert file copies bytes) tt q p)
       (λ _. cond_both (has_too_few t copies) _ _ (OfFiles Q L) (λ _. answered t asked.Insert o n _ (command.Insert file copies bytes) tt q p)
-        (λ _. replicated_files t o n file copies bytes (targets_of t file copies) q p))
+      (λ _. replicated_files t o n file copies bytes (targets_of t file copies) q p))
   inserted_files t o n file copies bytes None q p =
       cond_both (has_too_few t copies) _ _ (OfFiles Q L) (λ _. answered t asked.Insert o n _ (command.Insert file copies bytes) tt q p) (λ _. accepted_files t o n file copies bytes q p)
 
@@ -281,7 +281,7 @@ module _ (Q : ℕ → ℕ → NodeCommand → Type 0) (L : ℕ → ℕ → ℕ �
   lookup_requested : (s : State) (waiting : List ℕ) (o n key hops : ℕ) → PassesOn L s → L s.me o n key hops → Each (AsksFor Q) s.pending → Requested Q L s (on_lookup (record s { waiting = waiting }) o n key hops)
   lookup_requested s waiting o n key hops next h p = by (way_of s key) refl where
     by : (w : Way) → way_of s key ≡ w → Requested Q L s
-      (served (record s { waiting = waiting }) asked.Lookup o n w (Lookup o n key (one_more hops))
+        (served (record s { waiting = waiting }) asked.Lookup o n w (Lookup o n key (one_more hops))
         (before [] (note.Delivered o n key hops ∷ []) (replied (record s { waiting = waiting }) asked.Lookup o n (reply.Delivered s.me hops))))
     by way.NotReady e = record { sends = (tt, tt); pending = p; notes = (a_lookup key hops h (refl, e), tt) }
     by way.Here e = record { sends = (tt, tt); pending = p; notes = ((h, e), (a_lookup key hops h (refl, (0, omega arith, refl)), tt)) }

@@ -103,7 +103,7 @@ holder_link s right i a lists f has = is_link right s.phase _ (f.each right has.
 holder_gate : (s : State) (right : Bool) (i a : ℕ) (lists : Lists) → HasLease right s i a lists → short (lease_on right s) ≡ Some (record { joiner = i; attempt = a })
 holder_gate s right i a lists has = ap short has.at ∙ ap Some (λ j. record { joiner = has.joiner j; attempt = has.attempt j })
 
-no_lease : (s : State) (right : Bool) → LeasesFit s → is_ready s.phase ≡ false → short (lease_on right s) ≡ None
+pub no_lease : (s : State) (right : Bool) → LeasesFit s → is_ready s.phase ≡ false → short (lease_on right s) ≡ None
 no_lease s right f unready = by (lease_on right s) refl where
   by : (o : Option Lease) → lease_on right s ≡ o → short o ≡ None
   by None e = refl

@@ -1,5 +1,6 @@
 use Rattle.ring_laws.proofs.Owner.{one_owner, closest_owns}
 use Rattle.ring_laws.proofs.Hops.{hops_go_nearer}
+use Rattle.ring_laws.proofs.Notes.{lookups_are_right, closings_are_right}
 use Rattle.ring_laws.proofs.ring_law.Goals as goal
 
 pub returns-clause-one_covers : goal.returns-clause-one_covers
@@ -10,3 +11,9 @@ returns-clause-closest_covers c = closest_owns _ _ c.requires
 
 pub returns-clause-hops_go_nearer : goal.returns-clause-hops_go_nearer
 returns-clause-hops_go_nearer c = hops_go_nearer _ _ c.requires
+
+pub returns-clause-lookups_are_right : goal.returns-clause-lookups_are_right
+returns-clause-lookups_are_right c = lookups_are_right _ _ c.requires
+
+pub returns-clause-closings_are_right : goal.returns-clause-closings_are_right
+returns-clause-closings_are_right c = closings_are_right _ _ c.requires
