@@ -1,5 +1,5 @@
 -- How a step closes commands: by the reply that came, or by what became of a join. Each note Closed of a step is one of these.
-use Rattle.std.proofs.Common.{◌≡◌, ◌≢◌, ◌⊎◌, inl, inr, ℕ, ◌+◌, suc, Bool, true, false, not, ◌&&◌, ◌==◌, Option, Some, None, List, [], ◌∷◌, ◌++◌, filter, take, drop, position, slice_get, Contains, refl, sym, subst, ap, ◌∙◌, arith}
+use Rattle.std.proofs.Common.{◌≡◌, ◌≢◌, ◌⊎◌, inl, inr, ℕ, ◌+◌, suc, Bool, true, false, not, ◌&&◌, ◌==◌, Option, Some, None, List, [], ◌∷◌, ◌++◌, filter, take, drop, position, slice_get, Contains, refl, sym, subst, ap, ◌∙◌, arith, rules}
 use Rattle.std.proofs.lemmas.Bool.{cond_both}
 use Rattle.ring_math.specs.Bytewise.{same_bytes}
 use Rattle.ring_math.specs.Keys.{key_of}
@@ -113,126 +113,166 @@ NoteReplies P (note.Answered origin n r) = Unit {0}
 NoteReplies P (note.Accepted file bytes) = Unit {0}
 NoteReplies P (note.Reclaimed file) = Unit {0}
 
-record AllReply (P : ℕ → Reply → Type 0) (o : Outcome) : Type 0 where
-  each : Each (NoteReplies P) o.notes
+pub record AllReply (P : ℕ → Reply → Type 0) (W : List ℕ → Type 0) (o : Outcome) : Type 0 where
+  pub each : Each (NoteReplies P) o.notes
+  pub waiting : W o.state.waiting
 
-module _ (P : ℕ → Reply → Type 0) where
-  quiet : (t : State) → AllReply P (nothing t)
-  quiet t = record { each = tt }
+-- the numbers that wait after an input of lookups and files, where they change
+abbrev pub MessageWaits : (List ℕ → Type 0) → List ℕ → Message → Type 0
+MessageWaits W ws (LookupReply n r) = W (filter (λ m. not (m == n)) ws)
+MessageWaits W ws (InsertReply n r) = W (filter (λ m. not (m == n)) ws)
+MessageWaits W ws (FetchReply n r) = W (filter (λ m. not (m == n)) ws)
+MessageWaits W ws (ReclaimReply n r) = W (filter (λ m. not (m == n)) ws)
+MessageWaits W ws (Lookup origin number key hops) = Unit {0}
+MessageWaits W ws (Insert origin number hops file copies bytes) = Unit {0}
+MessageWaits W ws (Fetch origin number hops file) = Unit {0}
+MessageWaits W ws (Reclaim origin number hops file) = Unit {0}
+MessageWaits W ws (JoinRequest joiner a hops) = Unit {0}
+MessageWaits W ws (JoinReply a members) = Unit {0}
+MessageWaits W ws (JoinRefuse a w) = Unit {0}
+MessageWaits W ws (Probe a) = Unit {0}
+MessageWaits W ws (ProbeReply a members) = Unit {0}
+MessageWaits W ws (LeaseRequest a l r) = Unit {0}
+MessageWaits W ws (Grant a manifest tombs) = Unit {0}
+MessageWaits W ws (Deny a w) = Unit {0}
+MessageWaits W ws (Handover file bytes) = Unit {0}
+MessageWaits W ws (Release a) = Unit {0}
+MessageWaits W ws (Confirm a) = Unit {0}
+MessageWaits W ws Announce = Unit {0}
+MessageWaits W ws (Replicate origin number file bytes) = Unit {0}
+MessageWaits W ws (ReplicaAck origin number file) = Unit {0}
 
-  served_replies : (t : State) (what : Asked) (o n : ℕ) (w : Way) (next : Message) (here : Outcome) → AllReply P here → AllReply P (served t what o n w next here)
-  served_replies t what o n way.NotReady next here h = record { each = (tt, tt) }
-  served_replies t what o n way.Here next here h = h
-  served_replies t what o n (way.Gap j) next here h = record { each = (tt, tt) }
-  served_replies t what o n (way.To y) next here h = record { each = tt }
+abbrev pub InputWaits : (List ℕ → Type 0) → List ℕ → Input → Type 0
+InputWaits W ws (Comes from m) = MessageWaits W ws m
+InputWaits W ws (Command n c) = W (ws ++ n ∷ [])
+InputWaits W ws Noise = Unit {0}
 
-  lookup_replies : (t : State) (o n key hops : ℕ) → AllReply P (on_lookup t o n key hops)
-  lookup_replies t o n key hops = served_replies t asked.Lookup o n (way_of t key) _ _ (record { each = (tt, (tt, tt)) })
+module _ (P : ℕ → Reply → Type 0) (W : List ℕ → Type 0) where
+  quiet : (t : State) (q : W t.waiting) → AllReply P W (nothing t)
+  quiet t q = record { each = tt; waiting = q }
 
-  fetch_replies : (t : State) (o n hops : ℕ) (file : List ℕ) → AllReply P (on_fetch t o n hops file)
-  fetch_replies t o n hops file = served_replies t asked.Fetch o n (way_of t (key_of file)) _ _ (record { each = (tt, tt) })
+  served_replies : (t : State) (q : W t.waiting) (what : Asked) (o n : ℕ) (w : Way) (next : Message) (here : Outcome) → AllReply P W here → AllReply P W (served t what o n w next here)
+  served_replies t q what o n way.NotReady next here h = record { each = (tt, tt); waiting = q }
+  served_replies t q what o n way.Here next here h = h
+  served_replies t q what o n (way.Gap j) next here h = record { each = (tt, tt); waiting = q }
+  served_replies t q what o n (way.To y) next here h = record { each = tt; waiting = q }
 
-  replicated_replies : (t : State) (o n : ℕ) (file bytes targets : List ℕ) → AllReply P (replicated t o n file bytes targets)
-  replicated_replies t o n file bytes [] = record { each = (tt, tt) }
-  replicated_replies t o n file bytes (x ∷ xs) = record { each = tt }
+  lookup_replies : (t : State) (q : W t.waiting) (o n key hops : ℕ) → AllReply P W (on_lookup t o n key hops)
+  lookup_replies t q o n key hops = served_replies t q asked.Lookup o n (way_of t key) _ _ (record { each = (tt, (tt, tt)); waiting = q })
 
-  accepted_replies : (t : State) (o n : ℕ) (file : List ℕ) (copies : ℕ) (bytes : List ℕ) → AllReply P (accepted t o n file copies bytes)
-  accepted_replies t o n file copies bytes =
-      cond_both (has_room t.files) _ _ (AllReply P) (λ _. with_note _ (replicated_replies (record t { files = with_slot t.files file (Some bytes) }) o n file bytes (targets_of t file copies)))
-      (λ _. record { each = (tt, tt) }) where
-        with_note : (x : Outcome) → AllReply P x → AllReply P (before [] (note.Accepted file bytes ∷ []) x)
-        with_note x h = record { each = (tt, h.each) }
+  fetch_replies : (t : State) (q : W t.waiting) (o n hops : ℕ) (file : List ℕ) → AllReply P W (on_fetch t o n hops file)
+  fetch_replies t q o n hops file = served_replies t q asked.Fetch o n (way_of t (key_of file)) _ _ (record { each = (tt, tt); waiting = q })
 
-  inserted_replies : (t : State) (o n : ℕ) (file : List ℕ) (copies : ℕ) (bytes : List ℕ) (h : Option Slot) → AllReply P (inserted t o n file copies bytes h)
-  inserted_replies t o n file copies bytes (Some None) = record { each = (tt, tt) }
-  inserted_replies t o n file copies bytes (Some (Some held)) =
-      cond_both (not (same_bytes held bytes)) _ _ (AllReply P) (λ _. record { each = (tt, tt) })
-      (λ _. cond_both (has_too_few t copies) _ _ (AllReply P) (λ _. record { each = (tt, tt) }) (λ _. replicated_replies t o n file bytes (targets_of t file copies)))
-  inserted_replies t o n file copies bytes None =
-      cond_both (has_too_few t copies) _ _ (AllReply P) (λ _. record { each = (tt, tt) }) (λ _. accepted_replies t o n file copies bytes)
+  replicated_replies : (t : State) (q : W t.waiting) (o n : ℕ) (file bytes targets : List ℕ) → AllReply P W (replicated t o n file bytes targets)
+  replicated_replies t q o n file bytes [] = record { each = (tt, tt); waiting = q }
+  replicated_replies t q o n file bytes (x ∷ xs) = record { each = tt; waiting = q }
 
-  insert_replies : (t : State) (o n hops : ℕ) (file : List ℕ) (copies : ℕ) (bytes : List ℕ) → AllReply P (on_insert t o n hops file copies bytes)
-  insert_replies t o n hops file copies bytes = served_replies t asked.Insert o n (way_of t (key_of file)) _ _ (inserted_replies t o n file copies bytes (slot_of t.files file))
+  accepted_replies : (t : State) (q : W t.waiting) (o n : ℕ) (file : List ℕ) (copies : ℕ) (bytes : List ℕ) → AllReply P W (accepted t o n file copies bytes)
+  accepted_replies t q o n file copies bytes =
+      cond_both (has_room t.files) _ _ (AllReply P W) (λ _. with_note _ (replicated_replies (record t { files = with_slot t.files file (Some bytes) }) q o n file bytes (targets_of t file copies)))
+      (λ _. record { each = (tt, tt); waiting = q }) where
+        with_note : (x : Outcome) → AllReply P W x → AllReply P W (before [] (note.Accepted file bytes ∷ []) x)
+        with_note x h = record { each = (tt, h.each); waiting = h.waiting }
+
+  inserted_replies : (t : State) (q : W t.waiting) (o n : ℕ) (file : List ℕ) (copies : ℕ) (bytes : List ℕ) (h : Option Slot) → AllReply P W (inserted t o n file copies bytes h)
+  inserted_replies t q o n file copies bytes (Some None) = record { each = (tt, tt); waiting = q }
+  inserted_replies t q o n file copies bytes (Some (Some held)) =
+      cond_both (not (same_bytes held bytes)) _ _ (AllReply P W) (λ _. record { each = (tt, tt); waiting = q })
+      (λ _. cond_both (has_too_few t copies) _ _ (AllReply P W) (λ _. record { each = (tt, tt); waiting = q }) (λ _. replicated_replies t q o n file bytes (targets_of t file copies)))
+  inserted_replies t q o n file copies bytes None =
+      cond_both (has_too_few t copies) _ _ (AllReply P W) (λ _. record { each = (tt, tt); waiting = q }) (λ _. accepted_replies t q o n file copies bytes)
+
+  insert_replies : (t : State) (q : W t.waiting) (o n hops : ℕ) (file : List ℕ) (copies : ℕ) (bytes : List ℕ) → AllReply P W (on_insert t o n hops file copies bytes)
+  insert_replies t q o n hops file copies bytes = served_replies t q asked.Insert o n (way_of t (key_of file)) _ _ (inserted_replies t q o n file copies bytes (slot_of t.files file))
 
   each_replies : (t : State) (r : Reply) (ps : List Pending) → Each (NoteReplies P) (replied_each t r ps).notes
   each_replies t r [] = tt
   each_replies t r (x ∷ xs) = (tt, each_replies t r xs)
 
-  reclaimed_replies : (t : State) (o n : ℕ) (file : List ℕ) (h : Option Slot) → AllReply P (reclaimed t o n file h)
-  reclaimed_replies t o n file None = record { each = (tt, tt) }
-  reclaimed_replies t o n file (Some None) = record { each = (tt, tt) }
-  reclaimed_replies t o n file (Some (Some bytes)) = record {
+  reclaimed_replies : (t : State) (q : W t.waiting) (o n : ℕ) (file : List ℕ) (h : Option Slot) → AllReply P W (reclaimed t o n file h)
+  reclaimed_replies t q o n file None = record { each = (tt, tt); waiting = q }
+  reclaimed_replies t q o n file (Some None) = record { each = (tt, tt); waiting = q }
+  reclaimed_replies t q o n file (Some (Some bytes)) = record {
     each = (tt, Each-append (NoteReplies P) (replied_each (emptied t file) (reply.Gone t.me) (filter (is_of file) t.pending)).notes _ (each_replies (emptied t file) (reply.Gone t.me) (filter (is_of file) t.pending)) (tt, tt));
+    waiting = q;
   }
 
-  reclaim_replies : (t : State) (o n hops : ℕ) (file : List ℕ) → AllReply P (on_reclaim t o n hops file)
-  reclaim_replies t o n hops file = served_replies t asked.Reclaim o n (way_of t (key_of file)) _ _ (reclaimed_replies t o n file (slot_of t.files file))
+  reclaim_replies : (t : State) (q : W t.waiting) (o n hops : ℕ) (file : List ℕ) → AllReply P W (on_reclaim t o n hops file)
+  reclaim_replies t q o n hops file = served_replies t q asked.Reclaim o n (way_of t (key_of file)) _ _ (reclaimed_replies t q o n file (slot_of t.files file))
 
-  replicate_replies : (t : State) (from o n : ℕ) (file bytes : List ℕ) (h : Option Slot) → AllReply P (replicate_at t from o n file bytes h)
-  replicate_replies t from o n file bytes None = cond_both (has_room t.files) _ _ (AllReply P) (λ _. record { each = tt }) (λ _. quiet t)
-  replicate_replies t from o n file bytes (Some None) = quiet t
-  replicate_replies t from o n file bytes (Some (Some held)) = cond_both (same_bytes held bytes) _ _ (AllReply P) (λ _. record { each = tt }) (λ _. quiet t)
+  replicate_replies : (t : State) (q : W t.waiting) (from o n : ℕ) (file bytes : List ℕ) (h : Option Slot) → AllReply P W (replicate_at t from o n file bytes h)
+  replicate_replies t q from o n file bytes None = cond_both (has_room t.files) _ _ (AllReply P W) (λ _. record { each = tt; waiting = q }) (λ _. quiet t q)
+  replicate_replies t q from o n file bytes (Some None) = quiet t q
+  replicate_replies t q from o n file bytes (Some (Some held)) = cond_both (same_bytes held bytes) _ _ (AllReply P W) (λ _. record { each = tt; waiting = q }) (λ _. quiet t q)
 
-  taken_replies : (t : State) (place : ℕ) (p : Pending) (left : List ℕ) → AllReply P (ack_taken t place p left)
-  taken_replies t place p [] = record { each = (tt, tt) }
-  taken_replies t place p (y ∷ ys) = record { each = tt }
+  taken_replies : (t : State) (q : W t.waiting) (place : ℕ) (p : Pending) (left : List ℕ) → AllReply P W (ack_taken t place p left)
+  taken_replies t q place p [] = record { each = (tt, tt); waiting = q }
+  taken_replies t q place p (y ∷ ys) = record { each = tt; waiting = q }
 
-  ack_of_replies : (t : State) (from place : ℕ) (p : Option Pending) → AllReply P (ack_of t from place p)
-  ack_of_replies t from place None = quiet t
-  ack_of_replies t from place (Some p) = taken_replies t place p (filter (λ y. not (y == from)) p.awaited)
+  ack_of_replies : (t : State) (q : W t.waiting) (from place : ℕ) (p : Option Pending) → AllReply P W (ack_of t from place p)
+  ack_of_replies t q from place None = quiet t q
+  ack_of_replies t q from place (Some p) = taken_replies t q place p (filter (λ y. not (y == from)) p.awaited)
 
-  ack_replies : (t : State) (from : ℕ) (place : Option ℕ) → AllReply P (ack_at t from place)
-  ack_replies t from None = quiet t
-  ack_replies t from (Some place) = ack_of_replies t from place (slice_get t.pending place)
+  ack_replies : (t : State) (q : W t.waiting) (from : ℕ) (place : Option ℕ) → AllReply P W (ack_at t from place)
+  ack_replies t q from None = quiet t q
+  ack_replies t q from (Some place) = ack_of_replies t q from place (slice_get t.pending place)
 
-  ready_replies : (t : State) (p : Phase) → AllReply P (ready_test_in t p)
-  ready_replies t (Leasing a m l r (Some gl) (Some gr)) = cond_both (has_all t gl && has_all t gr) _ _ (AllReply P) (λ _. record { each = (tt, tt) }) (λ _. quiet t)
-  ready_replies t (Leasing a m l r (Some gl) None) = quiet t
-  ready_replies t (Leasing a m l r None gr) = quiet t
-  ready_replies t (Waiting a) = quiet t
-  ready_replies t (Asking a m) = quiet t
-  ready_replies t (Probing a m probed) = quiet t
-  ready_replies t (Ready a l r) = quiet t
+  ready_replies : (t : State) (q : W t.waiting) (p : Phase) → AllReply P W (ready_test_in t p)
+  ready_replies t q (Leasing a m l r (Some gl) (Some gr)) = cond_both (has_all t gl && has_all t gr) _ _ (AllReply P W) (λ _. record { each = (tt, tt); waiting = q }) (λ _. quiet t q)
+  ready_replies t q (Leasing a m l r (Some gl) None) = quiet t q
+  ready_replies t q (Leasing a m l r None gr) = quiet t q
+  ready_replies t q (Waiting a) = quiet t q
+  ready_replies t q (Asking a m) = quiet t q
+  ready_replies t q (Probing a m probed) = quiet t q
+  ready_replies t q (Ready a l r) = quiet t q
 
-  handover_replies : (t : State) (file bytes : List ℕ) (h : Option Slot) → AllReply P (handover_at t file bytes h)
-  handover_replies t file bytes None = cond_both (has_room t.files) _ _ (AllReply P) (λ _. ready_replies (holding t file bytes) t.phase) (λ _. quiet t)
-  handover_replies t file bytes (Some slot) = quiet t
+  handover_replies : (t : State) (q : W t.waiting) (file bytes : List ℕ) (h : Option Slot) → AllReply P W (handover_at t file bytes h)
+  handover_replies t q file bytes None = cond_both (has_room t.files) _ _ (AllReply P W) (λ _. ready_replies (holding t file bytes) q t.phase) (λ _. quiet t q)
+  handover_replies t q file bytes (Some slot) = quiet t q
 
-  come_replies : (t : State) (n : ℕ) (r : Reply) → P n r → AllReply P (on_reply t n r)
-  come_replies t n r h = cond_both (is_in t.waiting n) _ _ (AllReply P) (λ _. record { each = (h, tt) }) (λ _. quiet t)
+  come_replies : (t : State) (q : W t.waiting) (n : ℕ) (r : Reply) → W (filter (λ m. not (m == n)) t.waiting) → P n r → AllReply P W (on_reply t n r)
+  come_replies t q n r f h = cond_both (is_in t.waiting n) _ _ (AllReply P W) (λ _. record { each = (h, tt); waiting = f }) (λ _. quiet t q)
 
-  service_replies : (s : State) (i : Input) → IsServiceInput i → InputReplies P i → AllReply P (step s i)
-  service_replies s (Command n (command.Lookup key)) k h = lookup_replies (waits_for s n) s.me n key 0
-  service_replies s (Command n (command.Insert file copies bytes)) k h = insert_replies (waits_for s n) s.me n 0 file copies bytes
-  service_replies s (Command n (command.Fetch file)) k h = fetch_replies (waits_for s n) s.me n 0 file
-  service_replies s (Command n (command.Reclaim file)) k h = reclaim_replies (waits_for s n) s.me n 0 file
-  service_replies s (Command n (command.Join via)) k h = absurd k
-  service_replies s (Command n command.GiveUp) k h = absurd k
-  service_replies s (Comes from (Lookup o n key hops)) k h = lookup_replies s o n key hops
-  service_replies s (Comes from (LookupReply n r)) k h = come_replies s n r h
-  service_replies s (Comes from (Insert o n hops file copies bytes)) k h = insert_replies s o n hops file copies bytes
-  service_replies s (Comes from (InsertReply n r)) k h = come_replies s n r h
-  service_replies s (Comes from (Fetch o n hops file)) k h = fetch_replies s o n hops file
-  service_replies s (Comes from (FetchReply n r)) k h = come_replies s n r h
-  service_replies s (Comes from (Handover file bytes)) k h = handover_replies s file bytes (slot_of s.files file)
-  service_replies s (Comes from (Replicate o n file bytes)) k h = replicate_replies s from o n file bytes (slot_of s.files file)
-  service_replies s (Comes from (ReplicaAck o n file)) k h = ack_replies s from (position (awaits from o n file) s.pending)
-  service_replies s (Comes from (Reclaim o n hops file)) k h = reclaim_replies s o n hops file
-  service_replies s (Comes from (ReclaimReply n r)) k h = come_replies s n r h
-  service_replies s (Comes from (JoinRequest j a hops)) k h = absurd k
-  service_replies s (Comes from (JoinReply a heard)) k h = absurd k
-  service_replies s (Comes from (JoinRefuse a w)) k h = absurd k
-  service_replies s (Comes from (Probe a)) k h = absurd k
-  service_replies s (Comes from (ProbeReply a heard)) k h = absurd k
-  service_replies s (Comes from (LeaseRequest a l r)) k h = absurd k
-  service_replies s (Comes from (Grant a manifest tombs)) k h = absurd k
-  service_replies s (Comes from (Deny a w)) k h = absurd k
-  service_replies s (Comes from (Release a)) k h = absurd k
-  service_replies s (Comes from (Confirm a)) k h = absurd k
-  service_replies s (Comes from Announce) k h = absurd k
-  service_replies s Noise k h = absurd k
+  pub service_replies : (s : State) (i : Input) → IsServiceInput i → W s.waiting → InputWaits W s.waiting i → InputReplies P i → AllReply P W (step s i)
+  service_replies s (Command n (command.Lookup key)) k q f h = lookup_replies (waits_for s n) f s.me n key 0
+  service_replies s (Command n (command.Insert file copies bytes)) k q f h = insert_replies (waits_for s n) f s.me n 0 file copies bytes
+  service_replies s (Command n (command.Fetch file)) k q f h = fetch_replies (waits_for s n) f s.me n 0 file
+  service_replies s (Command n (command.Reclaim file)) k q f h = reclaim_replies (waits_for s n) f s.me n 0 file
+  service_replies s (Command n (command.Join via)) k q f h = absurd k
+  service_replies s (Command n command.GiveUp) k q f h = absurd k
+  service_replies s (Comes from (Lookup o n key hops)) k q f h = lookup_replies s q o n key hops
+  service_replies s (Comes from (LookupReply n r)) k q f h = come_replies s q n r f h
+  service_replies s (Comes from (Insert o n hops file copies bytes)) k q f h = insert_replies s q o n hops file copies bytes
+  service_replies s (Comes from (InsertReply n r)) k q f h = come_replies s q n r f h
+  service_replies s (Comes from (Fetch o n hops file)) k q f h = fetch_replies s q o n hops file
+  service_replies s (Comes from (FetchReply n r)) k q f h = come_replies s q n r f h
+  service_replies s (Comes from (Handover file bytes)) k q f h = handover_replies s q file bytes (slot_of s.files file)
+  service_replies s (Comes from (Replicate o n file bytes)) k q f h = replicate_replies s q from o n file bytes (slot_of s.files file)
+  service_replies s (Comes from (ReplicaAck o n file)) k q f h = ack_replies s q from (position (awaits from o n file) s.pending)
+  service_replies s (Comes from (Reclaim o n hops file)) k q f h = reclaim_replies s q o n hops file
+  service_replies s (Comes from (ReclaimReply n r)) k q f h = come_replies s q n r f h
+  service_replies s (Comes from (JoinRequest j a hops)) k q f h = absurd k
+  service_replies s (Comes from (JoinReply a heard)) k q f h = absurd k
+  service_replies s (Comes from (JoinRefuse a w)) k q f h = absurd k
+  service_replies s (Comes from (Probe a)) k q f h = absurd k
+  service_replies s (Comes from (ProbeReply a heard)) k q f h = absurd k
+  service_replies s (Comes from (LeaseRequest a l r)) k q f h = absurd k
+  service_replies s (Comes from (Grant a manifest tombs)) k q f h = absurd k
+  service_replies s (Comes from (Deny a w)) k q f h = absurd k
+  service_replies s (Comes from (Release a)) k q f h = absurd k
+  service_replies s (Comes from (Confirm a)) k q f h = absurd k
+  service_replies s (Comes from Announce) k q f h = absurd k
+  service_replies s Noise k q f h = absurd k
 
-  -- ---- every row
+-- ---- every row
+
+always_waits : (ws : List ℕ) (i : Input) → InputWaits (λ zs. Unit {0}) ws i
+always_waits ws (Command n c) = tt
+always_waits ws (Comes from (LookupReply n r)) = tt
+always_waits ws (Comes from m) = search rules
+always_waits ws Noise = tt
+
+module _ (P : ℕ → Reply → Type 0) where
 
   answer_closes : (s : State) (i : Input) (o : Outcome) (n : ℕ) (a : Answer) → AnswerReplies P n a → IsReply a → Closing P s i o n a
   answer_closes s i o n (answer.Reply r) h k = by_reply n r h
@@ -258,7 +298,7 @@ module _ (P : ℕ → Reply → Type 0) where
 
   pub seat_closes : (s : State) (i : Input) (o : Outcome) → Seat s i o → o ≡ step s i → InputReplies P i → AllClose P s i o
   seat_closes _ _ _ (row.serves s i o e f g q) is h =
-      record { each = Each-both (NoteReplies P) IsServiceNote (NoteCloses P s i o) o.notes (λ k. note_closes s i o k) (subst (AllReply P) (sym is) (service_replies s i q h)).each g.each }
+      record { each = Each-both (NoteReplies P) IsServiceNote (NoteCloses P s i o) o.notes (λ k. note_closes s i o k) (subst (AllReply P (λ ws. Unit {0})) (sym is) (service_replies P (λ ws. Unit {0}) s i q tt (always_waits s.waiting i) h)).each g.each }
   seat_closes _ _ _ (row.not_begun s n via reason e) is h = record { each = (as_not_begun n via reason refl e, tt) }
   seat_closes _ _ _ (row.stops_asking s n a m e) is h = record { each = (by_giving_up m n refl (join_of _ _ m e refl) (ap is_joining e), (as_given_up n refl (ap is_joining e), tt)) }
   seat_closes _ _ _ (row.stops_probing s n a m probed e) is h = record { each = (by_giving_up m n refl (join_of _ _ m e refl) (ap is_joining e), (as_given_up n refl (ap is_joining e), tt)) }
