@@ -98,7 +98,7 @@ InputReplies P (Command n c) = Unit {0}
 InputReplies P Noise = Unit {0}
 
 -- of the closings with a reply: what the reply shows
-abbrev AnswerReplies : (ℕ → Reply → Type 0) → ℕ → Answer → Type 0
+abbrev pub AnswerReplies : (ℕ → Reply → Type 0) → ℕ → Answer → Type 0
 AnswerReplies P n (answer.Reply r) = P n r
 AnswerReplies P n (answer.Joined l r) = Unit {0}
 AnswerReplies P n (answer.Denied node w) = Unit {0}
@@ -106,7 +106,7 @@ AnswerReplies P n (answer.Stopped node reason) = Unit {0}
 AnswerReplies P n answer.GaveUp = Unit {0}
 AnswerReplies P n answer.NothingToGiveUp = Unit {0}
 
-abbrev NoteReplies : (ℕ → Reply → Type 0) → Note → Type 0
+abbrev pub NoteReplies : (ℕ → Reply → Type 0) → Note → Type 0
 NoteReplies P (note.Closed n a) = AnswerReplies P n a
 NoteReplies P (note.Delivered origin n key hops) = Unit {0}
 NoteReplies P (note.Answered origin n r) = Unit {0}

@@ -20,3 +20,4 @@ pub mod Causes
 pub mod JoinNumbers
 pub mod Notes
 pub mod Closed
+pub mod Numbers
