@@ -106,7 +106,7 @@ input_replies g w e x i k t = by e.event x i t.arrives where
 
 -- ---- every closing
 
-join_was : (w : World) (x n : ℕ) (p : Phase) → PhaseJoins (WasJoin w x) p → IsJoinOf p n → WasJoin w x n
+pub join_was : (w : World) (x n : ℕ) (p : Phase) → PhaseJoins (WasJoin w x) p → IsJoinOf p n → WasJoin w x n
 join_was w x n (Asking a m) h e = subst (WasJoin w x) e h
 join_was w x n (Probing a m probed) h e = subst (WasJoin w x) e h
 join_was w x n (Leasing a m l r fl fr) h e = subst (WasJoin w x) e h

@@ -273,7 +273,6 @@ always_waits ws (Comes from m) = search rules
 always_waits ws Noise = tt
 
 module _ (P : ℕ → Reply → Type 0) where
-
   answer_closes : (s : State) (i : Input) (o : Outcome) (n : ℕ) (a : Answer) → AnswerReplies P n a → IsReply a → Closing P s i o n a
   answer_closes s i o n (answer.Reply r) h k = by_reply n r h
   answer_closes s i o n (answer.Joined l r) h k = absurd k

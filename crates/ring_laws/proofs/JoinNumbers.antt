@@ -95,8 +95,8 @@ input_joins g w e x i t s = by i refl where
   by (Comes from m) is = tt
   by Noise is = tt
 
-keeps : (g : Setting) (w : World) (e : Entry) (x : ℕ) (i : Input) → JoinsCommanded w → Takes g w e x i → JoinsCommanded (stepped w e x (step (w.states x) i).state)
-keeps g w e x i k t = record {
+pub joins_keep_numbers : (g : Setting) (w : World) (e : Entry) (x : ℕ) (i : Input) → JoinsCommanded w → Takes g w e x i → JoinsCommanded (stepped w e x (step (w.states x) i).state)
+joins_keep_numbers g w e x i k t = record {
   phase = λ y. state_at-each (λ z s. PhaseJoins (WasJoin v z) s.phase) w.states x (step (w.states x) i).state y
       (seat_joins (WasJoin v x) (w.states x) i (step (w.states x) i) (step_seat (w.states x) i) (input_joins g w e x i t v.states)
       (joins_weaker (WasJoin w x) (WasJoin v x) (w.states x).phase (was_join_later w e v.states x) (k.phase x)))
@@ -109,6 +109,8 @@ start_joins : (P : ℕ → Type 0) (y : ℕ) (b : Bool) → PhaseJoins P (start 
 start_joins P y true = tt
 start_joins P y false = tt
 
+pub joins_at_the_start : (g : Setting) → JoinsCommanded (world_at_start g)
+joins_at_the_start g = record { phase = λ y. start_joins (WasJoin (world_at_start g) y) y (y == g.founder) }
+
 pub join_numbers : (g : Setting) (es : List Entry) → IsRecord g es → (i : ℕ) → JoinsCommanded (world_after g es i)
-join_numbers g es r i =
-    always g JoinsCommanded (record { phase = λ y. start_joins (WasJoin (world_at_start g) y) y (y == g.founder) }) (record { keeps = keeps g }) es r i
+join_numbers g es r i = always g JoinsCommanded (joins_at_the_start g) (record { keeps = joins_keep_numbers g }) es r i

@@ -21,3 +21,4 @@ pub mod JoinNumbers
 pub mod Notes
 pub mod Closed
 pub mod Numbers
+pub mod Once

@@ -262,7 +262,10 @@ requests_keep g set = keeps_both g (Both (Both (MessagesHold g) (GatesHold g)) (
 abbrev pub AllHold : Setting → World → Type 0
 AllHold g w = Both (Both (Both (MessagesHold g) (GatesHold g)) (RingHolds g)) (RequestsHold g) w
 
+pub all_at_start : (g : Setting) → IsSetting g → AllHold g (world_at_start g)
+all_at_start g set = record { below = joins_at_start g set; above = requests_at_start g }
+
 -- the four invariants hold after every entry
 pub all_hold : (g : Setting) (es : List Entry) → IsRecord g es → (i : ℕ) → AllHold g (world_after g es i)
 all_hold g es r i =
-    always g (Both (Both (Both (MessagesHold g) (GatesHold g)) (RingHolds g)) (RequestsHold g)) (record { below = joins_at_start g r.setting; above = requests_at_start g }) (requests_keep g r.setting) es r i
+    always g (Both (Both (Both (MessagesHold g) (GatesHold g)) (RingHolds g)) (RequestsHold g)) (all_at_start g r.setting) (requests_keep g r.setting) es r i

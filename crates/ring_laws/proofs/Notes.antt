@@ -2,6 +2,7 @@
 use Rattle.std.proofs.Common.{◌≡◌, ◌≢◌, ◌⊎◌, inl, inr, ◌<◌, ◌≤◌, ◌^◌, ℕ, ◌+◌, Bool, true, false, Option, Some, None, List, [], ◌∷◌, ◌++◌, take, slice_get, Contains, refl, sym, subst, ap, ◌∙◌, arith}
 use Rattle.std.proofs.lemmas.List.Elements.{Contains-append_left, Contains-push}
 use Rattle.ring_math.specs.Members.{IsClosest, IsPred, IsSucc}
+use Rattle.ring_math.proofs.Counts.{farther-fewer}
 use Rattle.coverage.specs.declared.Hop.{Hop}
 use Rattle.coverage.specs.declared.Hop.TheVariants as hop
 use Rattle.coverage.specs.Coverage.{covers_of}
@@ -38,6 +39,7 @@ use Rattle.overlay_rules.proofs.Histories.{follows_at, world_after-next, past_af
 use Rattle.overlay_rules.proofs.Seat.{Seat, StopCause}
 use Rattle.overlay_rules.proofs.SeatStep.{step_seat, unready_way}
 use Rattle.ring_laws.specs.Closings.{RightClosing, ClosingsAreRight}
+use Rattle.ring_laws.specs.Hops.{FewerHops, HopsAreFew}
 use Rattle.ring_laws.proofs.Always.{Arrives, commanded, delivered, noised, Takes, stepped, takes, stepped-after}
 use Rattle.ring_laws.proofs.Messages.{ReadyIn, MessagesHold}
 use Rattle.ring_laws.proofs.Ring.{JoinsHold}
@@ -217,3 +219,15 @@ lookups_are_right g es r = each_note g es (RightLookupNote g) r (λ i e x j h h'
     lookup_note g (world_after g es i) e x j r.setting h h' t n
     (Each-contains _ _ n (requested g (world_after g es i) e x j r.setting h.below h.above t).notes (subst (λ ns. Contains ns n) t.notes c))
     (closed_note g es (world_after g es i) _ e x n h'.above (Contains-push (world_after g es i).past e) (closing_note g es i e x j r h h' t n c)))
+
+few_hops : (g : Setting) (w v : World) (e : Entry) (x : ℕ) (n : Note) → RightLookupNote g w v e x n → FewerHops g w v e x n
+few_hops g w v e x (note.Delivered o n key hops) h =
+    let few = h.few in
+    let fewer = farther-fewer (λ z. is_ready (v.states z).phase) g.nodes x key h.closest.member.0 h.closest.member.1 in omega arith
+few_hops g w v e x (note.Answered o n r) h = tt
+few_hops g w v e x (note.Closed n a) h = tt
+few_hops g w v e x (note.Accepted file bytes) h = tt
+few_hops g w v e x (note.Reclaimed file) h = tt
+
+pub hops_are_few : (g : Setting) (es : List Entry) → IsRecord g es → HopsAreFew g es
+hops_are_few g es r i e at n is_entry is_at c = few_hops g (world_after g es i) (world_after g es (i + 1)) e at.node n (lookups_are_right g es r i e at n is_entry is_at c)

@@ -106,12 +106,12 @@ once : (s : State) (i : Input) (t : State) (sends : List Sent) (n : ℕ) (a : An
 once s i t sends n a k from shut f g =
     elim (one_closed k n a) [
       | inl (e, c) ↦ record {
-          closes = omega arith;
-          source = λ lt. subst (λ z. IsOpen s z ⊎ IsGiven i z) e from;
-          shut = λ lt. subst (λ z. IsOpen t z → ⊥) e shut;
-          joins = f;
-          waits = g;
-        }
+        closes = omega arith;
+        source = λ lt. subst (λ z. IsOpen s z ⊎ IsGiven i z) e from;
+        shut = λ lt. subst (λ z. IsOpen t z → ⊥) e shut;
+        joins = f;
+        waits = g;
+      }
       | inr c ↦ record { closes = omega arith; source = λ lt. absurd (omega arith); shut = λ lt. absurd (omega arith); joins = f; waits = g }
     ]
 
@@ -148,6 +148,7 @@ twice s t sends m n a b k p join idle same = record {
 } where
   split : closings k (note.Closed m a ∷ (note.Closed n b ∷ [])) ≡ closings k (note.Closed m a ∷ []) + closings k (note.Closed n b ∷ [])
   split = two_closed k m n a b
+
   source : 0 < closings k (note.Closed m a ∷ (note.Closed n b ∷ [])) → IsOpen s k ⊎ (n ≡ k)
   source lt = elim (one_closed k m a) [
     | inl (e, c) ↦ inl (inl (subst (IsJoinOf s.phase) e join))
@@ -177,17 +178,17 @@ reply_counted : (s : State) (i : Input) (n : ℕ) (r : Reply) (k : ℕ) → IsAp
 reply_counted s i n r k a =
     cond_both (is_in s.waiting n) _ _ (λ (o : Outcome). Counted s i o k)
     (λ e. let c = Contains-is_in s.waiting n e in once s i _ [] n (answer.Reply r) k (inl (inr c))
-      (λ still. elim still [
-        | inl j ↦ a.apart n j c
-        | inr w ↦
-            let kept : not (n == n) ≡ true = (Contains-from_filter (λ m. not (m == n)) s.waiting n w).1 in
-            let itself : n == n ≡ true = (Decides-eqb n n).1 refl in absurd (not_itself (n == n) itself kept)
-      ])
-      (λ j. inl j) (λ w. inl (Contains-from_filter (λ m. not (m == n)) s.waiting k w).0))
+    (λ still. elim still [
+      | inl j ↦ a.apart n j c
+      | inr w ↦
+          let kept : not (n == n) ≡ true = (Contains-from_filter (λ m. not (m == n)) s.waiting n w).1 in
+          let itself : n == n ≡ true = (Decides-eqb n n).1 refl in absurd (not_itself (n == n) itself kept)
+    ])
+    (λ j. inl j) (λ w. inl (Contains-from_filter (λ m. not (m == n)) s.waiting k w).0))
     (λ _. quietly s i (nothing s) k tt (λ j. inl j) (λ w. inl w)) where
-  not_itself : (b : Bool) → b ≡ true → not b ≡ true → ⊥
-  not_itself true e f = cc
-  not_itself false e f = cc
+      not_itself : (b : Bool) → b ≡ true → not b ≡ true → ⊥
+      not_itself true e f = cc
+      not_itself false e f = cc
 
 -- a note of lookups and files that hands no reply on
 no_answer : (k n : ℕ) (a : Answer) → AnswerReplies (λ m r. ⊥) n a → IsReply a → is_closing_of k (note.Closed n a) ≡ false

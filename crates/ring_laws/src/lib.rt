@@ -3,8 +3,9 @@
 
 ghost use Rattle.overlay_rules.specs.Laws.{OneCovers, ClosestCovers, HopsGoNearer};
 ghost use Rattle.overlay_rules.specs.Record.{IsRecord};
-ghost use Rattle.overlay_rules.specs.Rightly.{LookupsAreRight};
+ghost use Rattle.overlay_rules.specs.Rightly.{LookupsAreRight, ClosedOnce};
 ghost use Rattle.ring_laws.specs.Closings.{ClosingsAreRight};
+ghost use Rattle.ring_laws.specs.Hops.{HopsAreFew};
 ghost use Rattle.ring_laws.specs.Setting.{setting};
 
 use overlay_rules::Entries;
@@ -15,13 +16,15 @@ use ring_math::Id;
 ///
 /// No two ready nodes cover one key. The ready node closest to a key covers it, or has it in its gap of a joiner that is not
 /// ready. The next hop of a ready node is ready and nearer to the key. Every delivery was made by the one ready node then
-/// closest to its key, with fewer hops than there are ready nodes. Every answer to a lookup, and every closing of a command,
-/// is right.
+/// closest to its key, with fewer hops than there are ready nodes. Every answer to a lookup and every closing of a command is
+/// right, and no command is closed twice.
 pub fn ring_law(nodes: &[Id], founder: Id, entries: &Entries)
     requires { IsRecord (setting nodes.now founder) entries.now }
     ensures one_covers { OneCovers (setting nodes.now founder) entries.now }
     ensures closest_covers { ClosestCovers (setting nodes.now founder) entries.now }
     ensures hops_go_nearer { HopsGoNearer (setting nodes.now founder) entries.now }
     ensures lookups_are_right { LookupsAreRight (setting nodes.now founder) entries.now }
+    ensures hops_are_few { HopsAreFew (setting nodes.now founder) entries.now }
     ensures closings_are_right { ClosingsAreRight (setting nodes.now founder) entries.now }
+    ensures closed_once { ClosedOnce entries.now }
 {}
