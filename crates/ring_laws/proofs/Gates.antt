@@ -1,10 +1,10 @@
 -- The second invariant of every legal record, on leases: what they name, whose they are, that Grants stand, and what joiners keep of them.
-use Rattle.std.proofs.Common.{◌≡◌, ◌≢◌, ◌⊎◌, inl, inr, ◌<◌, ◌≤◌, ℕ, Bool, true, false, not, ◌&&◌, ◌==◌, nat_lt, Option, Some, None, List, [], ◌∷◌, ◌++◌, slice_get, Contains, refl, sym, subst, ap, ◌∙◌, arith}
+use Rattle.std.proofs.Common.{◌≡◌, ◌⊎◌, inl, inr, ◌<◌, ◌≤◌, ℕ, Bool, true, false, not, ◌==◌, nat_lt, Option, Some, None, slice_get, Contains, refl, sym, subst, ap, ◌∙◌, arith}
 use Rattle.std.proofs.lemmas.Bool.{cases_Bool, false_from_ne_true, and_parts}
 use Rattle.std.proofs.lemmas.Bool.Decides.{Decides-eqb, nat_tests}
 use Rattle.coverage.specs.GapFiles.{Lists}
 use Rattle.wire_msg.specs.declared.command.Command.{Command as NodeCommand}
-use Rattle.wire_msg.specs.Words.{Message, Envelope, Sent, Lookup, LookupReply, Insert, InsertReply, Fetch, FetchReply, JoinRequest, JoinReply, JoinRefuse, Probe, ProbeReply, LeaseRequest, Grant, Deny, Handover, Release, Confirm, Announce, Replicate, ReplicaAck, Reclaim, ReclaimReply}
+use Rattle.wire_msg.specs.Words.{Message, Envelope, Lookup, LookupReply, Insert, InsertReply, Fetch, FetchReply, JoinRequest, JoinReply, JoinRefuse, Probe, ProbeReply, LeaseRequest, Grant, Deny, Handover, Release, Confirm, Announce, Replicate, ReplicaAck, Reclaim, ReclaimReply}
 use Rattle.overlay_rules.specs.declared.gate.Gate.{Gate}
 use Rattle.overlay_rules.specs.declared.entry.Event.{Event}
 use Rattle.overlay_rules.specs.declared.entry.Entry.{Entry}
@@ -13,16 +13,16 @@ use Rattle.overlay_rules.specs.Outcome.{Outcome, Input, Command, Comes, Noise}
 use Rattle.overlay_rules.specs.Step.{step}
 use Rattle.overlay_rules.specs.Record.{Setting, IsSetting, World, sent_in, state_at, world_at_start}
 use Rattle.overlay_rules.specs.Gates.{is_of, is_older}
-use Rattle.overlay_rules.proofs.Each.{Each, Each-append, Each-both, Each-slice_get, Each-weaker}
+use Rattle.overlay_rules.proofs.Each.{Each, Each-append, Each-slice_get, Each-weaker}
 use Rattle.overlay_rules.proofs.Histories.{sent_in-push, state_at-itself, state_at-each, IsFrom, each_envelope}
 use Rattle.overlay_rules.proofs.Seat.{Seat}
 use Rattle.overlay_rules.proofs.SeatStep.{step_seat}
 use Rattle.ring_laws.proofs.Always.{Arrives, commanded, delivered, noised, Takes, Keeps, Both, keeps_both, stepped}
-use Rattle.ring_laws.proofs.Phases.{Moves, HasLeased, HasLeased-moves, HasLeased-attempt, IsReadyWith, IsReadyWith-ready}
+use Rattle.ring_laws.proofs.Phases.{HasLeased, HasLeased-moves, HasLeased-attempt, IsReadyWith-ready}
 use Rattle.ring_laws.proofs.Told.{Shows}
-use Rattle.ring_laws.proofs.Messages.{ReadyIn, attempt_in, Holds, MessagesHold, messages_keep, moved, ready_stays, attempt_grows}
+use Rattle.ring_laws.proofs.Messages.{attempt_in, Holds, MessagesHold, messages_keep, moved, ready_stays, attempt_grows}
 use Rattle.ring_laws.proofs.Leases.{lease_on, pick, end_in, Fits, LeasesFit, seat_fits, SparedBy, Spares, seat_lasts, GatesBy, Asks, AllGates, seat_gates}
-use Rattle.ring_laws.proofs.Grants.{HasLease, GrantedBy, AllGranted, seat_grants, OnKept, PhaseKept, GrantBrings, MessageBrings, Brings, seat_kept}
+use Rattle.ring_laws.proofs.Grants.{HasLease, GrantedBy, seat_grants, OnKept, PhaseKept, MessageBrings, Brings, seat_kept}
 
 -- a gate's joiner is a node, which leases between its two ends, or is past that
 pub record GateHolds (g : Setting) (states : ℕ → State) (gate : Gate) : Type 0 where

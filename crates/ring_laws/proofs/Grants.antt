@@ -1,15 +1,14 @@
 -- Grants and what a joiner keeps of them: while the joiner's attempt stands and it is not ready, the sender of each has the lease that the Grant gave.
-use Rattle.std.proofs.Common.{◌≡◌, ◌≢◌, ◌⊎◌, inl, inr, ◌<◌, ◌≤◌, ℕ, Bool, true, false, not, ◌&&◌, ◌||◌, ◌==◌, if◌then◌else◌, Option, Some, None, List, [], ◌∷◌, refl, sym, subst, ap, ◌∙◌, arith, rules}
+use Rattle.std.proofs.Common.{◌≡◌, inl, inr, ℕ, Bool, true, false, not, ◌&&◌, ◌||◌, ◌==◌, if◌then◌else◌, Option, Some, None, List, [], ◌∷◌, refl, sym, subst, ap, ◌∙◌, rules}
 use Rattle.std.proofs.lemmas.Bool.{cond_both, cond-true, cond-false, cases_Bool, and_parts, or_cases}
-use Rattle.std.proofs.lemmas.Bool.Decides.{Decides-eqb, nat_tests}
+use Rattle.std.proofs.lemmas.Bool.Decides.{Decides-eqb}
 use Rattle.coverage.specs.GapFiles.{Lists}
 use Rattle.wire_msg.specs.Words.{Message, Lookup, LookupReply, Insert, InsertReply, Fetch, FetchReply, JoinRequest, JoinReply, JoinRefuse, Probe, ProbeReply, LeaseRequest, Grant, Deny, Handover, Release, Confirm, Announce, Replicate, ReplicaAck, Reclaim, ReclaimReply}
 use Rattle.ring_math.specs.Ring.{is_between}
-use Rattle.overlay_rules.specs.declared.gate.Gate.{Gate}
 use Rattle.overlay_rules.specs.State.{State, Lease, Phase, Waiting, Asking, Probing, Leasing, Ready, is_ready, bare}
 use Rattle.overlay_rules.specs.Outcome.{Outcome, Input, Command, Comes, Noise, Sent, to_both, to_each}
 use Rattle.overlay_rules.specs.Joining.{kept_first}
-use Rattle.overlay_rules.specs.Gates.{is_of, is_gate_of, is_again, fits, blocked_by}
+use Rattle.overlay_rules.specs.Gates.{is_gate_of, is_again, fits}
 use Rattle.overlay_rules.specs.Gatekeeper.{links_of, cleared, lease_of, lists_of, with_lease}
 use Rattle.overlay_rules.proofs.Each.{Each, Each-append, Each-weaker}
 use Rattle.overlay_rules.proofs.Seat.{Seat, IsService}

@@ -1,14 +1,12 @@
 -- Requests and what answers them: each message, pending insert, delivery and answer of a step is that of the command behind it.
 -- Q says of a command of lookups and files what it is, L of a lookup on its way to a node what it shows.
-use Rattle.std.proofs.Common.{◌≡◌, ◌≢◌, ◌⊎◌, inl, inr, ℕ, suc, Bool, true, false, not, ◌&&◌, ◌==◌, nat_lt, if◌then◌else◌, Option, Some, None, List, [], ◌∷◌, ◌++◌, filter, take, drop, length, position, slice_get, Contains, refl, sym, subst, ap, ◌∙◌, arith, rules}
+use Rattle.std.proofs.Common.{◌≡◌, ℕ, suc, not, ◌&&◌, ◌==◌, if◌then◌else◌, Option, Some, None, List, [], ◌∷◌, ◌++◌, filter, take, position, slice_get, Contains, refl, sym, subst, arith}
 use Rattle.std.proofs.lemmas.Bool.{cond_both}
-use Rattle.std.proofs.lemmas.List.Elements.{Contains-append_left, Contains-append_right}
 use Rattle.ring_math.specs.Bytewise.{same_bytes}
 use Rattle.ring_math.specs.Keys.{key_of}
 use Rattle.ring_math.specs.Sides.{is_in}
 use Rattle.ring_math.specs.Files.{Slot, slot_of, with_slot, has_room}
 use Rattle.ring_math.specs.declared.file.Held.{Held}
-use Rattle.coverage.specs.GapFiles.{Lists}
 use Rattle.wire_msg.specs.declared.command.Command.{Command as NodeCommand}
 use Rattle.wire_msg.specs.declared.command.Command.TheVariants as command
 use Rattle.wire_msg.specs.declared.note.Note.{Note}
@@ -22,9 +20,9 @@ use Rattle.overlay_rules.specs.declared.request.Pending.{Pending}
 use Rattle.overlay_rules.specs.declared.request.Way.{Way}
 use Rattle.overlay_rules.specs.declared.request.Way.TheVariants as way
 use Rattle.overlay_rules.specs.State.{State, Phase, Waiting, Asking, Probing, Leasing, Ready}
-use Rattle.overlay_rules.specs.Outcome.{Outcome, Input, Command, Comes, Noise, Sent, nothing, becomes, before, sent, to_both, to_each, replied, reply_message}
+use Rattle.overlay_rules.specs.Outcome.{Outcome, Input, Command, Comes, Noise, nothing, before, to_both, to_each, replied, reply_message}
 use Rattle.overlay_rules.specs.Routed.{way_of, one_more, served, on_lookup}
-use Rattle.overlay_rules.specs.Roots.{is_ask, with_ask, targets_of, replicated, has_too_few, accepted, inserted, on_insert, is_of, replied_each, emptied, reclaimed, on_reclaim, fetched, on_fetch}
+use Rattle.overlay_rules.specs.Roots.{is_ask, targets_of, replicated, has_too_few, accepted, inserted, on_insert, is_of, replied_each, emptied, reclaimed, on_reclaim, fetched, on_fetch}
 use Rattle.overlay_rules.specs.Replicas.{holding, replicate_at, ack_taken, ack_of, ack_at, awaits, handover_at, on_reply}
 use Rattle.overlay_rules.specs.ReadyTest.{ready_test_in, has_all}
 use Rattle.overlay_rules.specs.Gatekeeper.{cleared, is_left_to, gated_reach, newly_gated, granted, handovers, with_handover, lists_of}
@@ -32,7 +30,7 @@ use Rattle.overlay_rules.specs.Step.{step, waits_for}
 use Rattle.overlay_rules.proofs.Each.{Each, Each-append, Each-drop, Each-filter, Each-slice_get, Each-take, Each-weaker}
 use Rattle.overlay_rules.proofs.Seat.{Seat, IsService, IsServiceInput}
 use Rattle.overlay_rules.proofs.Seat as row
-use Rattle.overlay_rules.proofs.SeatStep.{handovers_service, new_lists}
+use Rattle.overlay_rules.proofs.SeatStep.{new_lists}
 
 -- ---- what messages, pending inserts and notes show
 

@@ -1,29 +1,25 @@
 -- The third invariant of every legal record: links and gates of the ready nodes are those of a ring, so each arc ends at the true neighbour or at a joiner before it.
-use Rattle.std.proofs.Common.{◌≡◌, ◌≢◌, ◌⊎◌, inl, inr, ◌<◌, ◌≤◌, ◌^◌, ℕ, Bool, true, false, not, ◌==◌, Option, Some, None, List, [], ◌∷◌, ◌++◌, Contains, refl, sym, subst, ap, ◌∙◌, arith}
-use Rattle.std.proofs.lemmas.Bool.{cases_eq}
+use Rattle.std.proofs.Common.{◌≡◌, inl, inr, ℕ, Bool, true, false, not, ◌==◌, Option, Some, None, Contains, refl, sym, subst, ap, ◌∙◌}
 use Rattle.std.proofs.lemmas.Bool.Decides.{Decides-eqb}
-use Rattle.ring_math.specs.Members.{InRing, with}
-use Rattle.coverage.specs.Links as links
+use Rattle.ring_math.specs.Members.{with}
 use Rattle.coverage.specs.Links.{Side, HasSide, IsRing}
-use Rattle.coverage.proofs.Gates.{StaysSame}
-use Rattle.coverage.proofs.RingSteps.{ring_founded, ring_stays, Joins, ring_joined}
+use Rattle.coverage.proofs.RingSteps.{ring_founded, ring_stays, ring_joined}
 use Rattle.coverage.specs.GapFiles.{Lists}
 use Rattle.wire_msg.specs.Words.{Message, LeaseRequest, Release, Confirm}
 use Rattle.overlay_rules.specs.declared.entry.Entry.{Entry}
 use Rattle.overlay_rules.specs.State.{State, Lease, Phase, Waiting, Asking, Probing, Leasing, Ready, attempt_of, is_ready, start}
-use Rattle.overlay_rules.specs.Outcome.{Outcome, Input, Command, Comes, Noise}
+use Rattle.overlay_rules.specs.Outcome.{Outcome, Input}
 use Rattle.overlay_rules.specs.Step.{step}
-use Rattle.overlay_rules.specs.Record.{Setting, IsSetting, World, state_at, Legal, world_at_start, world_after}
+use Rattle.overlay_rules.specs.Record.{Setting, IsSetting, World, state_at, world_at_start}
 use Rattle.overlay_rules.proofs.Histories.{state_at-itself, state_at-other, state_at-each}
-use Rattle.overlay_rules.proofs.Seat.{Seat}
 use Rattle.overlay_rules.proofs.SeatStep.{step_seat}
-use Rattle.ring_laws.proofs.Always.{Takes, Keeps, Both, keeps_both, stepped, always}
-use Rattle.ring_laws.proofs.Phases.{HasLeased, HasLeased-attempt, IsReadyWith, IsReadyWith-ready, Moves-settled}
+use Rattle.ring_laws.proofs.Always.{Takes, Keeps, Both, keeps_both, stepped}
+use Rattle.ring_laws.proofs.Phases.{HasLeased, HasLeased-attempt, IsReadyWith-ready, Moves-settled}
 use Rattle.ring_laws.proofs.Told.{Shows}
 use Rattle.ring_laws.proofs.Knows.{PhaseKnows}
-use Rattle.ring_laws.proofs.Leases.{lease_on, pick, end_in, IsLinkOf, LeasesFit, gate_ready}
+use Rattle.ring_laws.proofs.Leases.{lease_on, end_in, IsLinkOf, LeasesFit, gate_ready}
 use Rattle.ring_laws.proofs.Grants.{HasLease, Becomes, is_same, is_new, seat_becomes}
-use Rattle.ring_laws.proofs.Messages.{ReadyIn, attempt_in, Holds, MessagesHold, messages_at_start, in_ring, moved, ready_stays, attempt_grows}
+use Rattle.ring_laws.proofs.Messages.{ReadyIn, attempt_in, MessagesHold, messages_at_start, in_ring, moved, ready_stays, attempt_grows}
 use Rattle.ring_laws.proofs.Gates.{GateHolds, GatesHold, gates_keep, gates_at_start, by_message, brings, leased_between}
 use Rattle.ring_laws.proofs.Sides.{short, link_of, side_of, MessageKeeps, InputKeeps, seat_sides}
 
