@@ -156,7 +156,7 @@ kept_lasts g w e x i h t y (Ready a l r) le u k = tt
 
 -- ---- a Grant brings the lease of the side that its sender is
 
-pub leased_between : (a l r n x y : ℕ) (fl fr : Option Lists) → HasLeased a l r (Leasing a n x y fl fr) → (l ≡ x) × (r ≡ y)
+leased_between : (a l r n x y : ℕ) (fl fr : Option Lists) → HasLeased a l r (Leasing a n x y fl fr) → (l ≡ x) × (r ≡ y)
 leased_between a l r n x y fl fr (inl h) = (h.1, h.2)
 leased_between a l r n x y fl fr (inr lt) = absurd (omega arith)
 
@@ -170,6 +170,19 @@ to_side s false false lease f at m = at
 to_side s true false lease f at m = other_side s false lease f at m
 to_side s false true lease f at m = other_side s true lease f at m
 
+-- the lease of a joiner names the two that it leases between
+pub lease_ends : (g : Setting) (w : World) (x a n l r : ℕ) (fl fr : Option Lists) (right : Bool) (y : ℕ) (lists : Lists) → GatesHold g w → (w.states x).phase ≡ Leasing a n l r fl fr →
+    (has : HasLease right (w.states y) x a lists) → (has.lease.gate.left ≡ l) × (has.lease.gate.right ≡ r)
+lease_ends g w x a n l r fl fr right y lists k e has = leased_between a has.lease.gate.left has.lease.gate.right n l r fl fr leased where
+  gate : GateHolds g w.states has.lease.gate
+  gate = (k.gates y).each right has.lease has.at
+
+  leased : HasLeased a has.lease.gate.left has.lease.gate.right (Leasing a n l r fl fr)
+  leased =
+      subst (HasLeased a has.lease.gate.left has.lease.gate.right) e
+      (subst (λ z. HasLeased a has.lease.gate.left has.lease.gate.right (w.states z).phase) has.joiner
+      (subst (λ b. HasLeased b has.lease.gate.left has.lease.gate.right (w.states has.lease.gate.joiner).phase) has.attempt gate.leased))
+
 has_side : (g : Setting) (w : World) (x : ℕ) → MessagesHold g w → GatesHold g w → (side : Bool) (from a n l r : ℕ) (fl fr : Option Lists) (lists : Lists) → (w.states x).phase ≡ Leasing a n l r fl fr →
     from ≡ pick (not side) l r → (right : Bool) × HasLease right (w.states from) x a lists → HasLease side (w.states from) x a lists
 has_side g w x h k side from a n l r fl fr lists e f (right, has) = record {
@@ -179,18 +192,8 @@ has_side g w x h k side from a n l r fl fr lists e f (right, has) = record {
   attempt = has.attempt;
   same = has.same;
 } where
-  gate : GateHolds g w.states has.lease.gate
-  gate = (k.gates from).each right has.lease has.at
-
-  leased : HasLeased a has.lease.gate.left has.lease.gate.right (Leasing a n l r fl fr)
-  leased =
-      subst (HasLeased a has.lease.gate.left has.lease.gate.right) e
-      (subst (λ y. HasLeased a has.lease.gate.left has.lease.gate.right (w.states y).phase) has.joiner
-      (subst (λ b. HasLeased b has.lease.gate.left has.lease.gate.right (w.states has.lease.gate.joiner).phase) has.attempt gate.leased))
-
   between : (has.lease.gate.left ≡ l) × (has.lease.gate.right ≡ r)
-  between = leased_between a has.lease.gate.left has.lease.gate.right n l r fl fr leased
-
+  between = lease_ends g w x a n l r fl fr right from lists k e has
   ends : (side : Bool) → end_in (not side) has.lease.gate ≡ pick (not side) l r
   ends true = between.0
   ends false = between.1

@@ -16,6 +16,7 @@ use Rattle.overlay_rules.proofs.Each.{Each, Each-append, Each-filter, Each-weake
 use Rattle.overlay_rules.proofs.Seat.{Seat, SameSeat, IsService, AllService}
 use Rattle.overlay_rules.proofs.Seat as row
 use Rattle.overlay_rules.proofs.SeatStep.{granted_sends, newly_gated_sends}
+use Rattle.overlay_rules.proofs.Sends.{Each-to_both, Each-to_each}
 use Rattle.ring_laws.proofs.Learnt.{IsCons, Each-leaves, Each-learn, Each-learn_all, IsCons-learn, IsCons-learn_all, IsCons-known, first_left-known, first_right-known}
 
 -- ---- what a state knows
@@ -104,11 +105,10 @@ both : (R : ℕ → Type 0) (x : ℕ) (ms ns : List Sent) → AllTell R x ms →
 both R x ms ns h t = record { each = Each-append (λ m. Tells R x m.message) ms ns h.each t.each }
 
 to_both_tell : (R : ℕ → Type 0) (x l r : ℕ) (m : Message) → Tells R x m → AllTell R x (to_both l r m)
-to_both_tell R x l r m h = cond_both (l == r) _ _ (AllTell R x) (λ _. more R x _ _ h (none R x)) (λ _. more R x _ _ h (more R x _ _ h (none R x)))
+to_both_tell R x l r m h = record { each = Each-to_both (λ s. Tells R x s.message) l r m (λ y. h) }
 
 to_each_tell : (R : ℕ → Type 0) (x : ℕ) (ys : List ℕ) (m : Message) → Tells R x m → AllTell R x (to_each ys m)
-to_each_tell R x [] m h = none R x
-to_each_tell R x (y ∷ ys) m h = more R x _ _ h (to_each_tell R x ys m h)
+to_each_tell R x ys m h = record { each = Each-to_each (λ s. Tells R x s.message) ys m (λ y. h) }
 
 -- ---- what a step keeps
 

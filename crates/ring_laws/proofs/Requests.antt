@@ -30,6 +30,7 @@ use Rattle.overlay_rules.specs.Step.{step, waits_for}
 use Rattle.overlay_rules.proofs.Each.{Each, Each-append, Each-drop, Each-filter, Each-slice_get, Each-take, Each-weaker}
 use Rattle.overlay_rules.proofs.Seat.{Seat, IsService, IsServiceInput}
 use Rattle.overlay_rules.proofs.Seat as row
+use Rattle.overlay_rules.proofs.Sends.{Each-to_both, Each-to_each, Each-handovers}
 use Rattle.overlay_rules.proofs.SeatStep.{new_lists}
 
 -- ---- what messages, pending inserts and notes show
@@ -150,11 +151,10 @@ module _ (Q : ℕ → ℕ → NodeCommand → Type 0) (L : ℕ → ℕ → ℕ �
   reply_carries asked.Reclaim to n r = tt
 
   to_both_carries : (l r : ℕ) (m : Message) → ((y : ℕ) → Carries Q L y m) → Each (λ x. Carries Q L x.receiver x.message) (to_both l r m)
-  to_both_carries l r m h = cond_both (l == r) _ _ (Each (λ x. Carries Q L x.receiver x.message)) (λ _. (h l, tt)) (λ _. (h l, (h r, tt)))
+  to_both_carries l r m h = Each-to_both (λ x. Carries Q L x.receiver x.message) l r m h
 
   to_each_carries : (ys : List ℕ) (m : Message) → ((y : ℕ) → Carries Q L y m) → Each (λ x. Carries Q L x.receiver x.message) (to_each ys m)
-  to_each_carries [] m h = tt
-  to_each_carries (y ∷ ys) m h = (h y, to_each_carries ys m h)
+  to_each_carries ys m h = Each-to_each (λ x. Carries Q L x.receiver x.message) ys m h
 
   -- the answer to a command on a file, and nothing else
   answered : (t : State) (what : Asked) (o n : ℕ) (r : Reply) (c : NodeCommand) → IsOfFiles c → Q o n c → Each (AsksFor Q) t.pending → OfFiles Q L (replied t what o n r)
@@ -322,12 +322,7 @@ module _ (Q : ℕ → ℕ → NodeCommand → Type 0) (L : ℕ → ℕ → ℕ �
   -- ---- every row
 
   handovers_carry : (to : ℕ) (files : List Held) (manifest : List (List ℕ)) → Each (λ m. Carries Q L m.receiver m.message) (handovers to files manifest)
-  handovers_carry to files [] = tt
-  handovers_carry to files (f ∷ fs) = one (slot_of files f) (handovers_carry to files fs) where
-    one : (h : Option Slot) → Each (λ m. Carries Q L m.receiver m.message) (handovers to files fs) → Each (λ m. Carries Q L m.receiver m.message) (with_handover to f h (handovers to files fs))
-    one (Some (Some bytes)) rest = (tt, rest)
-    one (Some None) rest = rest
-    one None rest = rest
+  handovers_carry to files manifest = Each-handovers (λ m. Carries Q L m.receiver m.message) to files manifest (λ f b. tt)
 
   joins : (s : State) (o : Outcome) → Each (λ m. Carries Q L m.receiver m.message) o.sends → Each (AsksFor Q) o.state.pending → Each (FileNote Q) o.notes → Requested Q L s o
   joins s o f g h = from_files s o (record { sends = f; pending = g; notes = h })

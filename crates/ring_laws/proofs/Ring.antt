@@ -20,7 +20,7 @@ use Rattle.ring_laws.proofs.Knows.{PhaseKnows}
 use Rattle.ring_laws.proofs.Leases.{lease_on, end_in, IsLinkOf, LeasesFit, gate_ready}
 use Rattle.ring_laws.proofs.Grants.{HasLease, Becomes, is_same, is_new, seat_becomes}
 use Rattle.ring_laws.proofs.Messages.{ReadyIn, attempt_in, MessagesHold, messages_at_start, in_ring, moved, ready_stays, attempt_grows}
-use Rattle.ring_laws.proofs.Gates.{GateHolds, GatesHold, gates_keep, gates_at_start, by_message, brings, leased_between}
+use Rattle.ring_laws.proofs.Gates.{GateHolds, GatesHold, gates_keep, gates_at_start, by_message, brings, lease_ends}
 use Rattle.ring_laws.proofs.Sides.{short, link_of, side_of, MessageKeeps, InputKeeps, seat_sides}
 
 abbrev pub sides_in : (ℕ → State) → ℕ → Bool → Side
@@ -71,19 +71,6 @@ ring_kept g w e x i set h k t same =
           (subst (λ y. HasSide right P (attempt_in w.states) y (side_of (w.states x) right)) (sym (h.me x)) (k.ring.side right x px)))
 
 -- ---- one node becomes ready
-
--- the lease of a joiner names the two that it leases between
-lease_ends : (g : Setting) (w : World) (x a n l r : ℕ) (fl fr : Option Lists) (right : Bool) (y : ℕ) (lists : Lists) → GatesHold g w → (w.states x).phase ≡ Leasing a n l r fl fr →
-    (has : HasLease right (w.states y) x a lists) → (has.lease.gate.left ≡ l) × (has.lease.gate.right ≡ r)
-lease_ends g w x a n l r fl fr right y lists k e has = leased_between a has.lease.gate.left has.lease.gate.right n l r fl fr leased where
-  gate : GateHolds g w.states has.lease.gate
-  gate = (k.gates y).each right has.lease has.at
-
-  leased : HasLeased a has.lease.gate.left has.lease.gate.right (Leasing a n l r fl fr)
-  leased =
-      subst (HasLeased a has.lease.gate.left has.lease.gate.right) e
-      (subst (λ z. HasLeased a has.lease.gate.left has.lease.gate.right (w.states z).phase) has.joiner
-      (subst (λ b. HasLeased b has.lease.gate.left has.lease.gate.right (w.states has.lease.gate.joiner).phase) has.attempt gate.leased))
 
 is_link : (right : Bool) (p : Phase) (y : ℕ) → IsLinkOf right p y → link_of right p ≡ y
 is_link right (Ready a l r) y e = sym e
