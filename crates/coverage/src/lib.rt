@@ -6,6 +6,9 @@ ghost use Rattle.coverage.specs.declared.Reach.{Reach};
 ghost use Rattle.coverage.specs.Closest.{IsFirstClosest};
 ghost use Rattle.coverage.specs.Coverage.{covers_of, gap_of, gap_for, in_gap_of, taken_of, without, right_end, left_end, in_arcs, is_alone};
 
+mod laws;
+
+pub use laws::{coverage_law, owner_law, progress_law};
 use ring_math::{Id, between, cw, nearer};
 
 /// What coverage depends on: a node, its links, and the joiners of its gates.

@@ -40,7 +40,7 @@ pub fn nearer(a: Id, b: Id, key: Id) -> bool
 
 /// For each key, `nearer` is a strict total order on different identifiers: a law over its definition.
 #[tactic(auto, using(crate::proofs::Nearness::order_laws))]
-pub fn nearer_is_an_order()
+pub fn order_law()
     ensures irreflexive { (a key : ℕ) → is_nearer a a key ≡ false }
     ensures transitive { (a b c key : ℕ) → is_nearer a b key ≡ true → is_nearer b c key ≡ true → is_nearer a c key ≡ true }
     ensures total { (a b key : ℕ) → a < 2 ^ 128 → b < 2 ^ 128 → key < 2 ^ 128 → a ≢ b → is_nearer a b key ≡ false → is_nearer b a key ≡ true }

@@ -9,7 +9,7 @@ mod lists;
 mod memory;
 mod text;
 
-pub use circle::{between, cw, dist, nearer, nearer_is_an_order};
+pub use circle::{between, cw, dist, nearer, order_law};
 pub use digits::{digit, shared};
 pub use file::{FileId, Held, file_id, key_of};
 pub use id::{Id, id_of_name};
