@@ -1,0 +1,76 @@
+//! std's reader and writer as a source and a sink. Nothing is told of what they hold, so these few lines are what is
+//! trusted of the outside world.
+
+ghost use Rattle.std.specs.Prelude.{◌≡◌, ◌≢◌, ◌+◌, ◌-◌, ◌^◌, None, length, min};
+
+use crate::traits::{Piece, Sink, Source, Taken};
+use std::io::{Read, Write};
+
+/// A reader as a source. Each `Err` of the reader is a fault, and a read of 0 bytes is the end.
+#[derive(Drop)]
+pub struct FromReader<R> {
+    reader: R,
+    faults: u64,
+}
+
+impl<R: Read> FromReader<R> {
+    /// The reader with no fault so far.
+    pub fn new(reader: R) -> FromReader<R>
+        ensures { result ≡ record { reader = reader; faults = 0 } }
+    {
+        FromReader { reader, faults: 0 }
+    }
+}
+
+impl<R: Read> Source for FromReader<R> {
+    ghost use Rattle.std.specs.Prelude.{None};
+
+    ghost left = { λ _. None };
+
+    ghost faults = { λ s. s.faults };
+
+    fn read_some(&mut self, buf: &mut [u8]) -> Piece {
+        match self.reader.read(buf) {
+            Ok(0) => Piece::End,
+            Ok(count) => Piece::Got(count),
+            Err(_) => {
+                self.faults = self.faults.saturating_add(1);
+                Piece::Failed
+            }
+        }
+    }
+}
+
+/// A writer as a sink. Each `Err` of the writer is a fault, and so is a write of 0 bytes.
+#[derive(Drop)]
+pub struct ToWriter<W> {
+    writer: W,
+    faults: u64,
+}
+
+impl<W: Write> ToWriter<W> {
+    /// The writer with no fault so far.
+    pub fn new(writer: W) -> ToWriter<W>
+        ensures { result ≡ record { writer = writer; faults = 0 } }
+    {
+        ToWriter { writer, faults: 0 }
+    }
+}
+
+impl<W: Write> Sink for ToWriter<W> {
+    ghost use Rattle.std.specs.Prelude.{None};
+
+    ghost taken = { λ _. None };
+
+    ghost faults = { λ s. s.faults };
+
+    fn put(&mut self, bytes: &[u8]) -> Taken {
+        match self.writer.write(bytes) {
+            Ok(0) | Err(_) => {
+                self.faults = self.faults.saturating_add(1);
+                Taken::Failed
+            }
+            Ok(count) => Taken::Took(count),
+        }
+    }
+}

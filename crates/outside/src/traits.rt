@@ -1,0 +1,62 @@
+//! What a program reads from and writes to.
+
+ghost use Rattle.std.specs.Prelude.{ℕ, List, Option, length, ◌≡◌, ◌<◌, ◌≤◌};
+ghost use Rattle.outside.specs.Rose.{Rose};
+ghost use Rattle.outside.specs.Sink.{Appends, IsPartOf};
+ghost use Rattle.outside.specs.Source.{FitsIn, Leaves};
+ghost use Rattle.outside.specs.Told.{Told};
+
+/// What one call of a source gave.
+#[derive(Clone, Copy, Debug, PartialEq, Eq)]
+pub enum Piece {
+    /// So many bytes, at least one. They stand first in the buffer.
+    Got(usize),
+    /// Nothing is left.
+    End,
+    /// The call failed.
+    Failed,
+}
+
+/// What one call of a sink took.
+#[derive(Clone, Copy, Debug, PartialEq, Eq)]
+pub enum Taken {
+    /// So many of the bytes that were offered, at least one, from the front.
+    Took(usize),
+    /// The call failed, and nothing was taken.
+    Failed,
+}
+
+/// Where bytes come from.
+pub trait Source {
+    /// The bytes that are left. A source that tells nothing of them has None.
+    ghost left: { Self → Option (List ℕ) };
+
+    /// The count of faults.
+    ghost faults: { Self → ℕ };
+
+    /// Puts the next bytes at the front of `buf`, and says how many. What stands behind them in `buf` is not said.
+    /// After `Failed` nothing is said of which bytes are left. No memory.
+    fn read_some(&mut self, buf: &mut [u8]) -> Piece
+        requires { 0 < length buf.old }
+        ensures size { FitsIn result (length buf.old) }
+        ensures bytes { Told (left self.old) (left self.new) (λ before after. Leaves before result buf.new after) }
+        ensures count { faults self.old ≤ faults self.new }
+        ensures fault { result ≡ Piece.Failed → Rose (faults self.old) (faults self.new) };
+}
+
+/// Where bytes go to.
+pub trait Sink {
+    /// The bytes that were taken so far. A sink that tells nothing of them has None.
+    ghost taken: { Self → Option (List ℕ) };
+
+    /// The count of faults.
+    ghost faults: { Self → ℕ };
+
+    /// Takes bytes from the front of `bytes`, and says how many. No memory.
+    fn put(&mut self, bytes: &[u8]) -> Taken
+        requires { 0 < length bytes.now }
+        ensures size { IsPartOf result bytes.now }
+        ensures bytes { Told (taken self.old) (taken self.new) (λ before after. Appends before result bytes.now after) }
+        ensures count { faults self.old ≤ faults self.new }
+        ensures fault { result ≡ Taken.Failed → Rose (faults self.old) (faults self.new) };
+}
