@@ -18,7 +18,11 @@ counted n = min (n + 1) (2 ^ 64 - 1)
 abbrev pub is_next_to_fail : Calls → Bool
 is_next_to_fail c = nat_lt c.made (2 ^ 64 - 1) && list_any (λ n. n == c.made + 1) c.fails
 
+-- the count of faults after a call that failed or not
+abbrev pub faults_after : ℕ → Bool → ℕ
+faults_after faults true = counted faults
+faults_after faults false = faults
+
 -- one more call was made, which failed or not
 abbrev pub after_call : Calls → Bool → Calls
-after_call c true = record { fails = c.fails; made = counted c.made; faults = counted c.faults }
-after_call c false = record { fails = c.fails; made = counted c.made; faults = c.faults }
+after_call c failed = record { fails = c.fails; made = counted c.made; faults = faults_after c.faults failed }

@@ -1,5 +1,5 @@
 -- Bytes in memory that are given out piece by piece.
-use Rattle.std.specs.Prelude.{ℕ, List, [], ◌∷◌, length, drop, min}
+use Rattle.std.specs.Prelude.{◌≡◌, ℕ, List, [], ◌∷◌, length, drop, min}
 use Rattle.outside.specs.declared.traits.Piece.{Piece}
 use Rattle.outside.specs.declared.traits.Piece.TheVariants.{Got, End, Failed}
 
@@ -25,3 +25,7 @@ size_of Failed = 0
 -- the bytes that are left once a piece was given
 abbrev pub after_piece : Feed → Piece → Feed
 after_piece f piece = record { left = drop (size_of piece) f.left; per_call = f.per_call }
+
+-- one call with room for so many bytes
+abbrev pub Gives : Feed → ℕ → Piece → Feed → Type 0
+Gives f room piece after = (piece ≡ next_piece f room) × (after ≡ after_piece f piece)

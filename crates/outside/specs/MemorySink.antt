@@ -1,6 +1,7 @@
 -- A sink in memory: what each of its calls answers, and what it is afterwards.
-use Rattle.std.specs.Prelude.{ℕ, Bool, true, false, ◌||◌, ◌==◌, ◌-◌, ◌++◌, List, length, take, min, if◌then◌else◌}
+use Rattle.std.specs.Prelude.{◌≡◌, ℕ, ◌||◌, ◌==◌, ◌-◌, ◌++◌, List, length, take, min, if◌then◌else◌}
 use Rattle.outside.specs.Calls.{Calls, is_next_to_fail, after_call}
+use Rattle.outside.specs.Sink.{is_failed}
 use Rattle.outside.specs.declared.traits.Taken.{Taken}
 use Rattle.outside.specs.declared.traits.Taken.TheVariants.{Took, Failed}
 
@@ -17,10 +18,6 @@ abbrev pub next_answer : SinkInMemory → ℕ → Taken
 next_answer s offered =
     if (s.room == 0) || is_next_to_fail s.calls then Failed else Took (min offered (min s.per_call s.room))
 
-abbrev pub is_failed : Taken → Bool
-is_failed (Took n) = false
-is_failed Failed = true
-
 abbrev pub size_of : Taken → ℕ
 size_of (Took n) = n
 size_of Failed = 0
@@ -33,3 +30,7 @@ after_answer s bytes answer = record {
   per_call = s.per_call;
   calls = after_call s.calls (is_failed answer);
 }
+
+-- one call that offers these bytes
+abbrev pub Takes : SinkInMemory → List ℕ → Taken → SinkInMemory → Type 0
+Takes s bytes answer after = (answer ≡ next_answer s (length bytes)) × (after ≡ after_answer s bytes answer)

@@ -1,5 +1,5 @@
 -- What one call of a sink does, and what many calls may have done.
-use Rattle.std.specs.Prelude.{◌≡◌, ℕ, ◌≤◌, ◌<◌, List, ◌++◌, length, take, ⊤}
+use Rattle.std.specs.Prelude.{◌≡◌, ℕ, ◌≤◌, ◌<◌, Bool, true, false, List, ◌++◌, length, take, ⊤}
 use Rattle.outside.specs.declared.traits.Taken.{Taken}
 use Rattle.outside.specs.declared.traits.Taken.TheVariants.{Took, Failed}
 
@@ -16,3 +16,7 @@ Appends before Failed bytes after = after ≡ before
 -- what was taken before, and then the first of the bytes, but not all of them
 abbrev pub BreaksOff : List ℕ → List ℕ → List ℕ → Type 0
 BreaksOff bytes before after = (n : ℕ) × (n < length bytes) × (after ≡ before ++ take n bytes)
+
+abbrev pub is_failed : Taken → Bool
+is_failed (Took n) = false
+is_failed Failed = true

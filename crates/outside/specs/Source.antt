@@ -1,5 +1,5 @@
 -- What one call of a source does.
-use Rattle.std.specs.Prelude.{◌≡◌, ℕ, ◌≤◌, List, [], ◌++◌, take, ⊤}
+use Rattle.std.specs.Prelude.{◌≡◌, ℕ, ◌≤◌, Bool, true, false, List, [], ◌++◌, take, ⊤}
 use Rattle.outside.specs.declared.traits.Piece.{Piece}
 use Rattle.outside.specs.declared.traits.Piece.TheVariants.{Got, End, Failed}
 
@@ -14,3 +14,8 @@ abbrev pub Leaves : List ℕ → Piece → List ℕ → List ℕ → Type 0
 Leaves before (Got n) buf after = before ≡ take n buf ++ after
 Leaves before End buf after = (before ≡ []) × (after ≡ [])
 Leaves before Failed buf after = ⊤
+
+abbrev pub is_failed : Piece → Bool
+is_failed (Got n) = false
+is_failed End = false
+is_failed Failed = true

@@ -1,7 +1,7 @@
 //! std's reader and writer as a source and a sink. Nothing is told of what they hold, so these few lines are what is
 //! trusted of the outside world.
 
-ghost use Rattle.std.specs.Prelude.{◌≡◌, ◌≢◌, ◌+◌, ◌-◌, ◌^◌, None, length, min};
+ghost use Rattle.std.specs.Prelude.{◌≡◌};
 
 use crate::traits::{Piece, Sink, Source, Taken};
 use std::io::{Read, Write};
@@ -23,11 +23,15 @@ impl<R: Read> FromReader<R> {
 }
 
 impl<R: Read> Source for FromReader<R> {
-    ghost use Rattle.std.specs.Prelude.{None};
+    ghost use Rattle.std.specs.Prelude.{None, ◌≡◌};
+    ghost use Rattle.outside.specs.Calls.{faults_after};
+    ghost use Rattle.outside.specs.Source.{is_failed};
 
     ghost left = { λ _. None };
 
     ghost faults = { λ s. s.faults };
+
+    ghost gives = { λ s _ piece after. after.faults ≡ faults_after s.faults (is_failed piece) };
 
     fn read_some(&mut self, buf: &mut [u8]) -> Piece {
         match self.reader.read(buf) {
@@ -58,11 +62,15 @@ impl<W: Write> ToWriter<W> {
 }
 
 impl<W: Write> Sink for ToWriter<W> {
-    ghost use Rattle.std.specs.Prelude.{None};
+    ghost use Rattle.std.specs.Prelude.{None, ◌≡◌};
+    ghost use Rattle.outside.specs.Calls.{faults_after};
+    ghost use Rattle.outside.specs.Sink.{is_failed};
 
     ghost taken = { λ _. None };
 
     ghost faults = { λ s. s.faults };
+
+    ghost takes = { λ s _ answer after. after.faults ≡ faults_after s.faults (is_failed answer) };
 
     fn put(&mut self, bytes: &[u8]) -> Taken {
         match self.writer.write(bytes) {

@@ -1,10 +1,6 @@
 //! Devices in memory, of which each call is known beforehand.
 
-ghost use Rattle.std.specs.Prelude.{◌≡◌, ◌<◌, ◌≤◌, [], IfOk, length};
-ghost use Rattle.outside.specs.Rose.{Rose};
-ghost use Rattle.outside.specs.Sink.{Appends, IsPartOf};
-ghost use Rattle.outside.specs.Source.{FitsIn, Leaves};
-ghost use Rattle.outside.specs.Told.{Told};
+ghost use Rattle.std.specs.Prelude.{◌≡◌, ◌<◌, [], IfOk};
 
 use crate::calls::Calls;
 use crate::feed::Feed;
@@ -56,21 +52,15 @@ impl MemorySource {
 
 impl Source for MemorySource {
     ghost use Rattle.std.specs.Prelude.{Some};
-    ghost use Rattle.outside.specs.MemorySource.{after_answer, next_answer};
+    ghost use Rattle.outside.specs.MemorySource.{Gives};
 
     ghost left = { λ s. Some s.feed.left };
 
     ghost faults = { λ s. s.calls.faults };
 
-    fn read_some(&mut self, buf: &mut [u8]) -> Piece
-        requires { 0 < length buf.old }
-        ensures answer { result ≡ next_answer self.old (length buf.old) }
-        ensures after { self.new ≡ after_answer self.old result }
-        ensures size { FitsIn result (length buf.old) }
-        ensures bytes { Leaves self.old.feed.left result buf.new self.new.feed.left }
-        ensures count { self.old.calls.faults ≤ self.new.calls.faults }
-        ensures fault { result ≡ Piece.Failed → Rose self.old.calls.faults self.new.calls.faults }
-    {
+    ghost gives = { Gives };
+
+    fn read_some(&mut self, buf: &mut [u8]) -> Piece {
         let failed = self.calls.is_next_to_fail();
         self.calls.record(failed);
         if failed {
@@ -137,20 +127,15 @@ impl MemorySink {
 
 impl Sink for MemorySink {
     ghost use Rattle.std.specs.Prelude.{Some};
-    ghost use Rattle.outside.specs.MemorySink.{after_answer, next_answer};
+    ghost use Rattle.outside.specs.MemorySink.{Takes};
 
     ghost taken = { λ s. Some s.taken };
 
     ghost faults = { λ s. s.calls.faults };
 
-    fn put(&mut self, bytes: &[u8]) -> Taken
-        requires { 0 < length bytes.now }
-        ensures answer { result ≡ next_answer self.old (length bytes.now) }
-        ensures after { self.new ≡ after_answer self.old bytes.now result }
-        ensures size { IsPartOf result bytes.now }
-        ensures count { self.old.calls.faults ≤ self.new.calls.faults }
-        ensures fault { result ≡ Taken.Failed → Rose self.old.calls.faults self.new.calls.faults }
-    {
+    ghost takes = { Takes };
+
+    fn put(&mut self, bytes: &[u8]) -> Taken {
         let failed = self.room == 0 || self.calls.is_next_to_fail();
         self.calls.record(failed);
         if failed {

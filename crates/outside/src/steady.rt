@@ -1,8 +1,6 @@
 //! Devices that never fail.
 
-ghost use Rattle.std.specs.Prelude.{◌≡◌, ◌≢◌, ◌<◌, ◌≤◌, IfOk, length};
-ghost use Rattle.outside.specs.Source.{FitsIn, Leaves};
-ghost use Rattle.outside.specs.Sink.{IsPartOf};
+ghost use Rattle.std.specs.Prelude.{◌≡◌, ◌<◌, IfOk};
 
 use crate::feed::Feed;
 use crate::traits::{Piece, Sink, Source, Taken};
@@ -37,20 +35,15 @@ impl SteadySource {
 
 impl Source for SteadySource {
     ghost use Rattle.std.specs.Prelude.{Some};
-    ghost use Rattle.outside.specs.Feed.{after_piece, next_piece};
+    ghost use Rattle.outside.specs.Feed.{Gives};
 
     ghost left = { λ s. Some s.left };
 
     ghost faults = { λ _. 0 };
 
-    fn read_some(&mut self, buf: &mut [u8]) -> Piece
-        requires { 0 < length buf.old }
-        ensures answer { result ≡ next_piece self.old (length buf.old) }
-        ensures after { self.new ≡ after_piece self.old result }
-        ensures never_fails { result ≢ Piece.Failed }
-        ensures size { FitsIn result (length buf.old) }
-        ensures bytes { Leaves self.old.left result buf.new self.new.left }
-    {
+    ghost gives = { Gives };
+
+    fn read_some(&mut self, buf: &mut [u8]) -> Piece {
         self.feed.give(buf)
     }
 }
@@ -84,18 +77,16 @@ impl SteadySink {
 }
 
 impl Sink for SteadySink {
-    ghost use Rattle.std.specs.Prelude.{None, min};
+    ghost use Rattle.std.specs.Prelude.{None, length, min, ◌≡◌};
+    ghost use Rattle.outside.specs.declared.traits.Taken.TheVariants.{Took};
 
     ghost taken = { λ _. None };
 
     ghost faults = { λ _. 0 };
 
-    fn put(&mut self, bytes: &[u8]) -> Taken
-        requires { 0 < length bytes.now }
-        ensures answer { result ≡ Taken.Took (min (length bytes.now) self.old) }
-        ensures after { self.new ≡ self.old }
-        ensures size { IsPartOf result bytes.now }
-    {
+    ghost takes = { λ per_call bytes answer after. (answer ≡ Took (min (length bytes) per_call)) × (after ≡ per_call) };
+
+    fn put(&mut self, bytes: &[u8]) -> Taken {
         Taken::Took(bytes.len().min(self.per_call))
     }
 }

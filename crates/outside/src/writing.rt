@@ -4,6 +4,7 @@ ghost use Rattle.std.specs.Prelude.{◌≡◌, ◌≤◌, ◌++◌, OnOk, OnErr}
 ghost use Rattle.outside.specs.Rose.{Rose};
 ghost use Rattle.outside.specs.Sink.{BreaksOff};
 ghost use Rattle.outside.specs.Told.{Told};
+ghost use Rattle.outside.specs.Writing.{Writes};
 
 use crate::traits::{Sink, Taken};
 
@@ -15,6 +16,7 @@ pub struct WriteFault;
 pub fn write_all<K: Sink>(sink: &mut K, bytes: &[u8]) -> Result<(), WriteFault>
     ensures whole { OnOk result (Told (K.taken sink.old) (K.taken sink.new) (λ before after. after ≡ before ++ bytes.now)) }
     ensures part { OnErr result (Told (K.taken sink.old) (K.taken sink.new) (BreaksOff bytes.now)) }
+    ensures calls { Writes K.takes sink.old bytes.now result sink.new }
     ensures count { K.faults sink.old ≤ K.faults sink.new }
     ensures fault { OnErr result (Rose (K.faults sink.old) (K.faults sink.new)) }
 {
