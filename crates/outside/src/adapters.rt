@@ -5,18 +5,27 @@ ghost use Rattle.std.specs.Prelude.{◌≡◌};
 
 use crate::traits::{Piece, Sink, Source, Taken};
 use std::io::{Read, Write};
+use std::marker::Model;
 
-/// A reader as a source. Each `Err` of the reader is a fault, and a read of 0 bytes is the end.
+/// A reader as a source, which contracts see as the count of its faults. Each `Err` of the reader is a fault, and a read of 0 bytes is the end.
 #[derive(Drop)]
 pub struct FromReader<R> {
     reader: R,
     faults: u64,
 }
 
+impl<R> Model for FromReader<R> {
+    ghost use Rattle.std.specs.Prelude.{ℕ};
+
+    ghost Value = { ℕ };
+
+    ghost view = { λ s. s.faults };
+}
+
 impl<R: Read> FromReader<R> {
     /// The reader with no fault so far.
     pub fn new(reader: R) -> FromReader<R>
-        ensures { result ≡ record { reader = reader; faults = 0 } }
+        ensures { result ≡ 0 }
     {
         FromReader { reader, faults: 0 }
     }
@@ -29,9 +38,9 @@ impl<R: Read> Source for FromReader<R> {
 
     ghost left = { λ _. None };
 
-    ghost faults = { λ s. s.faults };
+    ghost faults = { λ faults. faults };
 
-    ghost gives = { λ s _ piece after. after.faults ≡ faults_after s.faults (is_failed piece) };
+    ghost gives = { λ before _ piece after. after ≡ faults_after before (is_failed piece) };
 
     fn read_some(&mut self, buf: &mut [u8]) -> Piece {
         match self.reader.read(buf) {
@@ -45,17 +54,25 @@ impl<R: Read> Source for FromReader<R> {
     }
 }
 
-/// A writer as a sink. Each `Err` of the writer is a fault, and so is a write of 0 bytes.
+/// A writer as a sink, which contracts see as the count of its faults. Each `Err` of the writer is a fault, and so is a write of 0 bytes.
 #[derive(Drop)]
 pub struct ToWriter<W> {
     writer: W,
     faults: u64,
 }
 
+impl<W> Model for ToWriter<W> {
+    ghost use Rattle.std.specs.Prelude.{ℕ};
+
+    ghost Value = { ℕ };
+
+    ghost view = { λ s. s.faults };
+}
+
 impl<W: Write> ToWriter<W> {
     /// The writer with no fault so far.
     pub fn new(writer: W) -> ToWriter<W>
-        ensures { result ≡ record { writer = writer; faults = 0 } }
+        ensures { result ≡ 0 }
     {
         ToWriter { writer, faults: 0 }
     }
@@ -68,9 +85,9 @@ impl<W: Write> Sink for ToWriter<W> {
 
     ghost taken = { λ _. None };
 
-    ghost faults = { λ s. s.faults };
+    ghost faults = { λ faults. faults };
 
-    ghost takes = { λ s _ answer after. after.faults ≡ faults_after s.faults (is_failed answer) };
+    ghost takes = { λ before _ answer after. after ≡ faults_after before (is_failed answer) };
 
     fn put(&mut self, bytes: &[u8]) -> Taken {
         match self.writer.write(bytes) {

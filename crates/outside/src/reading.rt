@@ -1,6 +1,7 @@
 //! Reading a source up to a limit.
 
-ghost use Rattle.std.specs.Prelude.{◌≡◌, ◌≤◌, Err, IfOk, MatchResult, None, Some, drop, length, take};
+ghost use Rattle.std.specs.Prelude.{◌≡◌, ◌≤◌, Err, IfOk, drop, length, take};
+ghost use Rattle.std.specs.Result.{result_err};
 ghost use Rattle.outside.specs.Reading.{Reads};
 ghost use Rattle.outside.specs.Rose.{Rose};
 ghost use Rattle.outside.specs.Told.{Told};
@@ -39,7 +40,7 @@ pub fn read_to_limit<S: Source>(
 ) -> Result<Vec<u8>, ReadFault>
     ensures bytes { Told (S.left source.old) (S.left source.new) (λ before after.
         IfOk result (λ read. (read.items ≡ take most before) × (after ≡ drop most before))) }
-    ensures calls { MatchResult result (λ _. Reads S.gives source.old most None source.new) (λ fault. Reads S.gives source.old most (Some fault) source.new) }
+    ensures calls { Reads S.gives source.old most (result_err result) source.new }
     ensures limit { IfOk result (λ read. length read.items ≤ most) }
     ensures count { S.faults source.old ≤ S.faults source.new }
     ensures fault { result ≡ Err ReadFault.Read → Rose (S.faults source.old) (S.faults source.new) }

@@ -1,6 +1,7 @@
-use Rattle.std.proofs.Common.{◌≡◌, ◌<◌, ◌-◌, ◌++◌, ℕ, List, Result, Ok, Err, MatchResult, IsErrAnd, min, length, take, drop, length-take, append_assoc, subst, sym, ap, ◌∙◌, arith}
+use Rattle.std.proofs.Common.{◌≡◌, ◌<◌, ◌-◌, ◌++◌, ℕ, List, Option, Some, Result, Ok, Err, IsErrAnd, min, length, take, drop, length-take, append_assoc, subst, sym, ap, ◌∙◌, arith}
+use Rattle.std.specs.Result.{result_err}
 use Rattle.std.proofs.lemmas.List.{take-append-le}
-use Rattle.outside.specs.Reading.{Offers}
+use Rattle.outside.specs.Reading.{Offers, Reads}
 use Rattle.outside.specs.Reading.Reads.{enough, ended, failed, refused, went_on}
 use Rattle.outside.specs.declared.reading.ReadFault.{ReadFault}
 use Rattle.outside.specs.declared.reading.ReadFault.TheVariants.{OutOfMemory}
@@ -12,9 +13,9 @@ offers : (buf : List ℕ) (most len room : ℕ) → length buf ≡ 4096 → len 
 offers buf most len room whole short is = record { wants = omega arith; asks = omega (arith, length-take room buf) }
 
 -- what holds of want of memory holds of the fault that `?` hands on
-at_refusal : {V : Type 0} (r : Result V ReadFault) (P : Type 0) (Q : ReadFault → Type 0) → IsErrAnd r (λ fault. fault ≡ OutOfMemory) → Q OutOfMemory → MatchResult r (λ _. P) Q
-at_refusal (Ok v) P Q is q = absurd is
-at_refusal (Err fault) P Q is q = subst Q (sym is) q
+at_refusal : {V : Type 0} (r : Result V ReadFault) (P : Option ReadFault → Type 0) → IsErrAnd r (λ fault. fault ≡ OutOfMemory) → P (Some OutOfMemory) → P (result_err r)
+at_refusal (Ok v) P is p = absurd is
+at_refusal (Err fault) P is p = subst (λ f. P (Some f)) (sym is) p
 
 pub loop-buf-preserved : goal.loop-buf-preserved
 loop-buf-preserved g c =
@@ -32,7 +33,7 @@ loop-buf-preserved g c =
 
 pub returns-in_err-extend_from_slice-in-Got-clause-calls : goal.returns-in_err-extend_from_slice-in-Got-clause-calls
 returns-in_err-extend_from_slice-in-Got-clause-calls g c =
-    at_refusal c.from_residual.result _ _ c.from_residual.ensures.1
+    at_refusal c.from_residual.result (λ end. Reads g.S.Source.gives c.args.source.now c.args.most end c.read_some.new.self) c.from_residual.ensures.1
     (c.loop-buf.invariant.calls _ _ (refused _ _ _ _ c.in-Got.count (offers _ _ _ _ (omega arith) (omega arith) (omega arith)) c.in-Got.ensures.step))
 
 pub returns-in-End-clause-calls : goal.returns-in-End-clause-calls
