@@ -1,6 +1,5 @@
 -- How rises of a count of faults join with calls before and after, and when there was none.
-use Rattle.std.proofs.Common.{◌≡◌, ◌<◌, ◌≤◌, ◌-◌, ◌^◌, ◌⊎◌, ℕ, inl, inr, arith}
-use Rattle.std.proofs.lemmas.Grind.{common_steps}
+use Rattle.std.proofs.Common.{◌<◌, ◌≤◌, ◌-◌, ◌^◌, ℕ, inl, inr, arith}
 use Rattle.outside.specs.Rose.{Rose}
 
 -- a count that stayed below the last number of a u64 did not rise

@@ -1,5 +1,5 @@
 -- How facts on bytes that a device may tell are made, joined and read, for loops over a source or a sink.
-use Rattle.std.proofs.Common.{◌≡◌, ℕ, List, Option, Some, None, refl, ◌∙◌, sym, subst}
+use Rattle.std.proofs.Common.{◌≡◌, ℕ, List, Option, Some, None, refl, subst}
 use Rattle.outside.specs.Told.{Told}
 
 -- no call

@@ -1,4 +1,4 @@
-use Rattle.std.proofs.Common.{◌≡◌, ◌<◌, ◌+◌, ◌-◌, ℕ, List, arith, append_assoc, length, take, drop, length-drop, sym, subst}
+use Rattle.std.proofs.Common.{ℕ, arith, append_assoc, length-drop, sym}
 use Rattle.std.proofs.Math.ListN.{drop_of_length-le}
 use Rattle.std.proofs.Math.Seq.{take-add}
 use Rattle.std.proofs.lemmas.List.{drop-drop, take_rest}
