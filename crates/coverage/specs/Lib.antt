@@ -1,3 +1,4 @@
 pub mod Coverage
 pub mod Closest
 pub mod NextHop
+pub mod Links

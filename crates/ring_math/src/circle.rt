@@ -1,6 +1,6 @@
 //! Distances on the circle.
 
-ghost use Rattle.std.specs.Prelude.{◌≡◌};
+ghost use Rattle.std.specs.Prelude.{◌≡◌, ◌≢◌, ◌<◌, ◌^◌, ℕ, true, false};
 ghost use Rattle.ring_math.specs.Ring.{cw_of, dist_of, is_between, is_nearer};
 
 use crate::id::Id;
@@ -37,3 +37,11 @@ pub fn nearer(a: Id, b: Id, key: Id) -> bool
     let from_b = dist(b, key);
     from_a < from_b || from_a == from_b && cw(a, key) < cw(b, key)
 }
+
+/// For each key, `nearer` is a strict total order on different identifiers: a law over its definition.
+#[tactic(auto, using(crate::proofs::Nearness::order_laws))]
+pub fn order_law()
+    ensures irreflexive { (a key : ℕ) → is_nearer a a key ≡ false }
+    ensures transitive { (a b c key : ℕ) → is_nearer a b key ≡ true → is_nearer b c key ≡ true → is_nearer a c key ≡ true }
+    ensures total { (a b key : ℕ) → a < 2 ^ 128 → b < 2 ^ 128 → key < 2 ^ 128 → a ≢ b → is_nearer a b key ≡ false → is_nearer b a key ≡ true }
+{}

@@ -1,6 +1,11 @@
 //! Identifiers of files, and what a node keeps for one.
 
+ghost use Rattle.std.specs.Prelude.{◌≡◌};
+ghost use Rattle.ring_math.specs.Keys.{file_of, key_of};
+
+use crate::id::{Id, leading_id};
 use crate::lists::Bytes;
+use sha1::Sha1;
 use std::marker::Model;
 
 /// An identifier of a file: 20 bytes, the SHA-1 of what names it.
@@ -15,6 +20,25 @@ impl Model for FileId {
     ghost view = { λ a. a.0 };
 
     ghost inverse = { λ n. record { 0 = n } };
+}
+
+/// The identifier of a file (PAST): the SHA-1 of its name, one zero byte, its owner and its salt.
+pub fn file_id(name: &[u8], owner: &[u8], salt: &[u8; 8]) -> FileId
+    ensures { result ≡ file_of name.now owner.now salt.now }
+{
+    let mut hasher = Sha1::new();
+    hasher.update(name);
+    hasher.update(&[0]);
+    hasher.update(owner);
+    hasher.update(salt);
+    FileId(hasher.finalize())
+}
+
+/// The key of a file: the first 16 bytes of its identifier, the most significant first.
+pub fn key_of(file: &FileId) -> Id
+    ensures { result ≡ key_of file.now }
+{
+    leading_id(&file.0)
 }
 
 /// An entry of a store: the bytes of a file, or its tombstone.

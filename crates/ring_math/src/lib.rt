@@ -2,13 +2,17 @@
 #![tactic(auto)]
 
 mod circle;
+mod digits;
 mod file;
 mod id;
 mod lists;
 mod memory;
+mod text;
 
-pub use circle::{between, cw, dist, nearer};
-pub use file::{FileId, Held};
-pub use id::Id;
+pub use circle::{between, cw, dist, nearer, order_law};
+pub use digits::{digit, shared};
+pub use file::{FileId, Held, file_id, key_of};
+pub use id::{Id, id_of_name};
 pub use lists::{Bytes, BytesFault, FileIds, Ids};
 pub use memory::OutOfMemory;
+pub use text::{IdFault, id_from_hex, id_to_hex};

@@ -1,12 +1,12 @@
 //! Lists with a limit: bytes of a file, identifiers and files that one message names.
 
-ghost use Rattle.std.specs.Prelude.{◌≡◌, ◌<◌, ◌≤◌, ◌++◌, ◌∷◌, [], ◌↔◌, IsTrue, length, IfOk, MatchResult, Err};
+ghost use Rattle.std.specs.Prelude.{◌≡◌, ◌<◌, ◌≤◌, ◌++◌, ◌∷◌, [], ◌↔◌, IsTrue, length, IfOk, IfErr, Err};
 ghost use Rattle.std.specs.Bool.{OnTrue, OnFalse};
 
 use crate::file::FileId;
 use crate::id::Id;
 use crate::memory::OutOfMemory;
-use std::alloc::Global;
+use std::alloc::{AllocError, Global};
 use std::marker::Model;
 
 /// The bytes of a file, at most 4,096.
@@ -34,7 +34,30 @@ pub enum BytesFault {
     OutOfMemory,
 }
 
+impl From<AllocError> for BytesFault {
+    ghost use Rattle.ring_math.specs.declared.lists.BytesFault.TheVariants.{OutOfMemory};
+
+    ghost from_gives = { λ _ fault. fault ≡ OutOfMemory };
+
+    fn from(_error: AllocError) -> BytesFault {
+        BytesFault::OutOfMemory
+    }
+}
+
 impl Bytes {
+    /// A copy of at most 4,096 bytes.
+    pub fn copy_of(alloc: Global, bytes: &[u8]) -> Result<Bytes, BytesFault>
+        ensures copied { IfOk result (λ copy. copy ≡ bytes.now) }
+        ensures too_long { 4096 < length bytes.now → result ≡ Err (BytesFault.TooLong (length bytes.now)) }
+        ensures fits { length bytes.now ≤ 4096 → IfErr result (λ fault. fault ≡ BytesFault.OutOfMemory) }
+    {
+        if bytes.len() > 4096 {
+            return Err(BytesFault::TooLong { found: bytes.len() });
+        }
+        let items = bytes.to_vec(alloc)?;
+        Ok(Bytes { items })
+    }
+
     pub fn as_slice(&self) -> &[u8]
         ensures value { result.now ≡ self.now }
         ensures limit { length self.now ≤ 4096 }

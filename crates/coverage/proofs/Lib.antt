@@ -1,0 +1,13 @@
+pub mod Best
+pub mod Ways
+pub mod Added
+pub mod Arcs
+pub mod Ends
+pub mod Owner
+pub mod Settled
+pub mod Leaves
+pub mod Progress
+pub mod Gates
+pub mod RingSteps
+pub mod Rows
+pub mod Nearest

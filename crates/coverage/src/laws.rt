@@ -1,0 +1,44 @@
+//! Laws of coverage over its definitions. The functions do nothing: their contracts are what is proved.
+
+ghost use Rattle.std.specs.Prelude.{◌≡◌, ◌↔◌, ◌⊎◌, ◌<◌, ◌^◌, ℕ, Bool, true, false, None, List, Contains};
+ghost use Rattle.ring_math.specs.Ring.{is_nearer};
+ghost use Rattle.ring_math.specs.Members.{InRing, IsPred, IsSucc, IsClosest};
+ghost use Rattle.ring_math.specs.Sides.{right_side, left_side, first_or};
+ghost use Rattle.coverage.specs.declared.Reach.{Reach};
+ghost use Rattle.coverage.specs.Coverage.{covers_of, gap_of, settled};
+ghost use Rattle.coverage.specs.Links.{Side, IsRing, KeepsFor, members, reach_of};
+
+/// Coverage is being the closest: a member of a set whose links are its true neighbours there, and beside which nobody
+/// joins, covers a key exactly where no other member is nearer. Sets of one, ties and arcs of half the circle are among them.
+pub fn coverage_law()
+    ensures { (xs : List ℕ) (x left right key : ℕ) → InRing (Contains xs) → key < 2 ^ 128 → Contains xs x →
+        IsPred (Contains xs) x left → IsSucc (Contains xs) x right →
+        (covers_of (settled x left right) key ≡ true) ↔ IsClosest (Contains xs) key x }
+{}
+
+/// A key goes on to a nearer node. Who neither covers it nor has it in a gap has a link that is nearer to it, and where
+/// anybody known is nearer than the node, so is the first leaf of one side.
+pub fn progress_law()
+    ensures link { (r : Reach) (key : ℕ) → r.me < 2 ^ 128 → r.left < 2 ^ 128 → r.right < 2 ^ 128 → key < 2 ^ 128 →
+        covers_of r key ≡ false → gap_of r key ≡ None →
+        (is_nearer r.left r.me key ≡ true) ⊎ (is_nearer r.right r.me key ≡ true) }
+    ensures leaf { (me : ℕ) (known : List ℕ) (y key : ℕ) → InRing (Contains known) → me < 2 ^ 128 → key < 2 ^ 128 →
+        (Contains known me → ⊥) → Contains known y → is_nearer y me key ≡ true →
+        (is_nearer (first_or me (left_side me known)) me key ≡ true)
+        ⊎ (is_nearer (first_or me (right_side me known)) me key ≡ true) }
+{}
+
+/// One owner for each key, among ready nodes whose links and gates are as `IsRing` says: no two cover it, who covers it
+/// is the closest, and the closest covers it or has it in its gap of a joiner that is not ready.
+pub fn owner_law()
+    ensures one { (ready : ℕ → Bool) (attempt_of : ℕ → ℕ) (sides : ℕ → Bool → Side) (x y key : ℕ) →
+        IsRing (members ready) attempt_of sides → key < 2 ^ 128 → members ready x → members ready y →
+        covers_of (reach_of x (sides x)) key ≡ true → covers_of (reach_of y (sides y)) key ≡ true → x ≡ y }
+    ensures right { (ready : ℕ → Bool) (attempt_of : ℕ → ℕ) (sides : ℕ → Bool → Side) (x key : ℕ) →
+        IsRing (members ready) attempt_of sides → key < 2 ^ 128 → members ready x →
+        covers_of (reach_of x (sides x)) key ≡ true → IsClosest (members ready) key x }
+    ensures owned { (ready : ℕ → Bool) (attempt_of : ℕ → ℕ) (sides : ℕ → Bool → Side) (x key : ℕ) →
+        IsRing (members ready) attempt_of sides → key < 2 ^ 128 → IsClosest (members ready) key x →
+        (covers_of (reach_of x (sides x)) key ≡ true)
+        ⊎ ((j : ℕ) × KeepsFor (members ready) (reach_of x (sides x)) key j) }
+{}

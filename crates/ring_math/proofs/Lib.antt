@@ -1,0 +1,7 @@
+pub mod Distances
+pub mod Nearness
+pub mod Membership
+pub mod Neighbours
+pub mod Counts
+pub mod Prefixes
+pub mod Spelling

@@ -1,0 +1,54 @@
+//! Identifiers as hexadecimal texts.
+
+ghost use Rattle.std.specs.Prelude.{◌≡◌, Ok, Some, IsSome};
+ghost use Rattle.ring_math.specs.Texts.{text_of, id_read, faulty_place};
+
+use crate::id::Id;
+use hex::FromHexError;
+
+/// Why a text is no identifier.
+#[derive(Clone, Copy, PartialEq, Eq, Debug)]
+pub enum IdFault {
+    /// There are not 32 bytes.
+    Length { found: usize },
+    /// Of 32 bytes, the first that is no hexadecimal digit stands here.
+    Digit { place: usize },
+}
+
+/// The 32 hexadecimal digits of an identifier, in lower case.
+pub fn id_to_hex(id: Id) -> [u8; 32]
+    ensures text { result ≡ text_of id }
+    ensures back { id_read result ≡ Ok id }
+{
+    let mut text = [0; 32];
+    let written = hex::encode_to_slice(id.0.to_be_bytes(), &mut text);
+    prove!(written.is_ok());
+    text
+}
+
+/// The identifier that 32 hexadecimal digits spell, in either case.
+pub fn id_from_hex(text: &[u8]) -> Result<Id, IdFault>
+    ensures { result ≡ id_read text.now }
+{
+    if text.len() != 32 {
+        return Err(IdFault::Length { found: text.len() });
+    }
+    let mut bytes = [0; 16];
+    match hex::decode_to_slice(text, &mut bytes) {
+        Ok(()) => Ok(Id(u128::from_be_bytes(bytes))),
+        Err(fault) => Err(IdFault::Digit {
+            place: place_of(fault),
+        }),
+    }
+}
+
+/// Where the byte stands that is no digit.
+fn place_of(fault: FromHexError) -> usize
+    requires { IsSome (faulty_place fault) }
+    ensures { faulty_place fault ≡ Some result }
+{
+    match fault {
+        FromHexError::InvalidHexCharacter { index, .. } => index,
+        _ => unreachable!(),
+    }
+}
