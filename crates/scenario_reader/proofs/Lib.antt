@@ -1,0 +1,6 @@
+mod Numbers
+mod Cuts
+mod Pieces
+mod Growth
+mod Outcomes
+mod Limits
