@@ -7,7 +7,8 @@ use crate::traits::{Piece, Sink, Source, Taken};
 use std::io::{Read, Write};
 use std::marker::Model;
 
-/// A reader as a source, which contracts see as the count of its faults. Each `Err` of the reader is a fault, and a read of 0 bytes is the end.
+/// A reader as a source, which contracts see as the count of its faults. Each `Err` of the reader is a fault, and a read
+/// of 0 bytes is the end.
 #[derive(Drop)]
 pub struct FromReader<R> {
     reader: R,
@@ -54,7 +55,8 @@ impl<R: Read> Source for FromReader<R> {
     }
 }
 
-/// A writer as a sink, which contracts see as the count of its faults. Each `Err` of the writer is a fault, and so is a write of 0 bytes.
+/// A writer as a sink, which contracts see as the count of its faults. Each `Err` of the writer is a fault, and so is a
+/// write of 0 bytes.
 #[derive(Drop)]
 pub struct ToWriter<W> {
     writer: W,

@@ -1,8 +1,7 @@
 //! Reading a source up to a limit.
 
-ghost use Rattle.std.specs.Prelude.{◌≡◌, ◌≤◌, Err, IfOk, drop, length, take};
-ghost use Rattle.std.specs.Result.{result_err};
-ghost use Rattle.outside.specs.Reading.{Reads};
+ghost use Rattle.std.specs.Prelude.{◌≡◌, ◌≤◌, Err, IfOk, drop, length, take, vec_len};
+ghost use Rattle.outside.specs.Reading.{outcome_of, Reads};
 ghost use Rattle.outside.specs.Rose.{Rose};
 ghost use Rattle.outside.specs.Told.{Told};
 
@@ -40,7 +39,7 @@ pub fn read_to_limit<S: Source>(
 ) -> Result<Vec<u8>, ReadFault>
     ensures bytes { Told (S.left source.old) (S.left source.new) (λ before after.
         IfOk result (λ read. (read.items ≡ take most before) × (after ≡ drop most before))) }
-    ensures calls { Reads S.gives source.old most (result_err result) source.new }
+    ensures calls { Reads S.gives most source.old 0 (outcome_of vec_len result) source.new }
     ensures limit { IfOk result (λ read. length read.items ≤ most) }
     ensures count { S.faults source.old ≤ S.faults source.new }
     ensures fault { result ≡ Err ReadFault.Read → Rose (S.faults source.old) (S.faults source.new) }

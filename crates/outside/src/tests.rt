@@ -108,6 +108,8 @@ fn reading_stops_at_the_limit(rt: HostRuntime) -> Result<(), Fail> {
     Ok(())
 }
 
+fn is_shared<T: Send + Sync>(_shared: &T) {}
+
 /// Over a steady source, want of memory is the only fault.
 fn read_steadily(
     alloc: Global,
@@ -137,8 +139,13 @@ fn steady_devices_do_not_fail(rt: HostRuntime) -> Result<(), Fail> {
         .ok_or("refused")?;
     assert_eq!(rt; read.as_slice(), bytes.as_slice());
     assert_eq!(rt; write_steadily(&mut SteadySink::new(7), &bytes), Ok(()));
-    FreePass.pass(0, 1);
     Ok(())
+}
+
+#[test]
+fn a_free_pass_holds_nobody_up() {
+    is_shared(&FreePass);
+    FreePass.pass(0, 1);
 }
 
 /// Gives and takes at most four bytes a call, and fails at the third call.
