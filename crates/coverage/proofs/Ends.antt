@@ -1,6 +1,6 @@
 -- Coverage and gap by the ends of a node's two arcs, one form for both sides.
 -- A node covers what the arcs up to its ends have; standing alone is no case of its own.
-use Rattle.std.proofs.Common.{◌≡◌, ℕ, Bool, true, false, ◌&&◌, not, ◌^◌, ◌<◌, ◌≤◌, ◌⊎◌, ◌≢◌, Option, Some, None, refl, sym, ◌∙◌, ap, arith, inl, inr}
+use Rattle.std.proofs.Common.{◌≡◌, ℕ, Bool, true, false, ◌&&◌, not, ◌^◌, ◌<◌, ◌≤◌, ◌⊎◌, ◌≢◌, Option, Some, None, refl, sym, ◌∙◌, ap, subst, arith, inl, inr}
 use Rattle.std.proofs.lemmas.Bool.{cases_Bool, cases_eq, cond-true, cond-false}
 use Rattle.std.proofs.lemmas.Bool.Decides.{nat_tests}
 use Rattle.ring_math.proofs.Nearness.{rank}
@@ -8,7 +8,7 @@ use Rattle.coverage.specs.declared.Reach.{Reach}
 use Rattle.coverage.specs.Coverage.{in_arcs, covers_of, gap_of, gap_for, or_else, in_gap_of, taken_of, without, is_alone, left_end, right_end, left_with, right_with}
 use Rattle.coverage.specs.Links.{stands}
 use Rattle.coverage.proofs.Ways.{way, before_from_stands}
-use Rattle.coverage.proofs.Arcs.{InHalf, Near, arcs_true, arcs_itself, arcs_by_right, arcs_by_left, arcs_or_nearer}
+use Rattle.coverage.proofs.Arcs.{InHalf, Near, arcs_true, arcs_itself, arcs_by_right, arcs_by_left, arcs_or_nearer, half_longer}
 
 -- ---- the parts of a reach on a side
 
@@ -59,6 +59,11 @@ end_on-beside false r j e b = grind (arith, nat_tests, e, b)
 pub end_on-without : (right : Bool) (r : Reach) (j : ℕ) → joiner_on right r ≡ Some j → end_on right (without r j) ≡ link_on right r
 end_on-without true r j e = grind (arith, nat_tests, e)
 end_on-without false r j e = grind (arith, nat_tests, e)
+
+-- it rests on the node, its link and its joiner on that side
+pub end_on-same : (right : Bool) (r q : Reach) → r.me ≡ q.me → link_on right r ≡ link_on right q → joiner_on right r ≡ joiner_on right q → end_on right r ≡ end_on right q
+end_on-same true r q me link joiner = ap (λ m. right_with m r.right r.right_joiner) me ∙ ap (λ l. right_with q.me l r.right_joiner) link ∙ ap (right_with q.me q.right) joiner
+end_on-same false r q me link joiner = ap (λ m. left_with m r.left r.left_joiner) me ∙ ap (λ l. left_with q.me l r.left_joiner) link ∙ ap (left_with q.me q.left) joiner
 
 taken_of-other : (o : Option ℕ) (j : ℕ) → (o ≡ Some j → ⊥) → taken_of o j ≡ o
 taken_of-other None j ne = refl
@@ -194,3 +199,29 @@ in_gap-parts r j key h = grind (arith, nat_tests, h, cases_Bool (covers_of (with
 
 pub in_gap_by : (r : Reach) (j key : ℕ) → covers_of (without r j) key ≡ true → covers_of r key ≡ false → in_gap_of r j key ≡ true
 in_gap_by r j key a b = grind (arith, nat_tests, a, b)
+
+half_to : (right : Bool) (r : Reach) (end key : ℕ) → end_on right r ≡ end → InHalf right r.me end key → InHalf right r.me (end_on right r) key
+half_to right r end key e h = subst (λ n. InHalf right r.me n key) (sym e) h
+
+-- a joiner takes away and never gives: without it the node covers no less
+half_without : (right : Bool) (r : Reach) (j key : ℕ) → IsReach r → key < 2 ^ 128 → InHalf right r.me (end_on right r) key → covers_of (without r j) key ≡ true
+half_without right r j key range hk h =
+    elim (cases_joiner (joiner_on right r) j) [
+      | inl e ↦
+          let at_link = end_on-without right r j e in
+          let longer = half_longer right r.me (end_on right r) (link_on right r) key range.me (end_on-bound right r range) (range.link right) hk (end_on-le right r range) h in
+          covers_by_half right (without r j) key range.me (rw at_link (range.link right)) hk (half_to right (without r j) (link_on right r) key at_link longer)
+      | inr ne ↦
+          let same = end_on-other right r j ne in
+          covers_by_half right (without r j) key range.me (rw same (end_on-bound right r range)) hk (half_to right (without r j) (end_on right r) key same h)
+    ]
+
+pub covers-without : (r : Reach) (j key : ℕ) → IsReach r → key < 2 ^ 128 → covers_of r key ≡ true → covers_of (without r j) key ≡ true
+covers-without r j key range hk h = by (where_covered r key range hk h) where
+  by : WhereCovered r key → covers_of (without r j) key ≡ true
+  by (itself e) = subst (λ k. covers_of (without r j) k ≡ true) (sym e) (covers_itself (without r j))
+  by (half right g) = half_without right r j key range hk g
+
+-- so a gate uncovers exactly the gap of its joiner
+pub covers-but_gap : (r : Reach) (j key : ℕ) → IsReach r → key < 2 ^ 128 → covers_of r key ≡ covers_of (without r j) key && not (in_gap_of r j key)
+covers-but_gap r j key range hk = grind (arith, nat_tests, cases_Bool (covers_of r key), cases_Bool (covers_of (without r j) key), covers-without r j key range hk)

@@ -106,29 +106,39 @@ not_holder : (right : Bool) (P Q : ℕ → Type 0) (before after : ℕ → ℕ) 
     ((sides x right).gate ≡ Some (record { joiner = i; attempt = a }) → ⊥) → x ≢ h right
 not_holder right P Q before after sides i a h x j other e = other (subst (λ w. (sides w right).gate ≡ Some (record { joiner = i; attempt = a })) (sym e) (j.gate right))
 
--- the gate of i
-gate_joined : (right : Bool) (P Q : ℕ → Type 0) (before after : ℕ → ℕ) (sides : ℕ → Bool → Side) (i a : ℕ) (h : Bool → ℕ) (x : ℕ) (gate : Lease) → IsRing P before sides →
-    Joins P Q before after sides i a h → P x → (sides x right).gate ≡ Some gate → gate.joiner ≡ i → HasGate right Q after x (sides x right).link gate
-gate_joined right P Q before after sides i a h x gate ring j px e same =
+-- the gate is i's, with the attempt with which i becomes a member, and it is at the holder
+pub record IsHeld (right : Bool) (i a x : ℕ) (holder : Bool → ℕ) (gate : Lease) : Type 0 where
+  pub at : x ≡ holder right
+  pub is : gate ≡ record { joiner = i; attempt = a }
+
+pub gate_held : (right : Bool) (P Q : ℕ → Type 0) (before after : ℕ → ℕ) (sides : ℕ → Bool → Side) (i a : ℕ) (h : Bool → ℕ) (x : ℕ) (gate : Lease) → IsRing P before sides →
+    Joins P Q before after sides i a h → P x → (sides x right).gate ≡ Some gate → gate.joiner ≡ i → IsHeld right i a x h gate
+gate_held right P Q before after sides i a h x gate ring j px e same =
     let g = (ring.side right x px).gated gate e in
     let b = between_holders right P Q before after sides i a h ring j in
     let y : ℕ = (sides x right).link in
     let absent : P gate.joiner → ⊥ = λ p. j.absent (subst P same p) in
     let before_link : stands right x i y ≡ true = subst (λ k. stands right x k y ≡ true) same g.between in
-    let is_holder : x ≡ h right = one_holder right P x (h right) y (h (not right)) i ring.in_ring j.bound j.absent px (j.held right) (g.before absent) b.next before_link b.between in
-    let held : (sides x right).gate ≡ Some (record { joiner = i; attempt = a }) = subst (λ w. (sides w right).gate ≡ Some (record { joiner = i; attempt = a })) (sym is_holder) (j.gate right) in
-    let is_i : gate ≡ record { joiner = i; attempt = a } = gate_apart gate (record { joiner = i; attempt = a }) (sym e ∙ held) in
+    let at_holder : x ≡ h right = one_holder right P x (h right) y (h (not right)) i ring.in_ring j.bound j.absent px (j.held right) (g.before absent) b.next before_link b.between in
+    let held : (sides x right).gate ≡ Some (record { joiner = i; attempt = a }) = subst (λ w. (sides w right).gate ≡ Some (record { joiner = i; attempt = a })) (sym at_holder) (j.gate right) in
+    record { at = at_holder; is = gate_apart gate (record { joiner = i; attempt = a }) (sym e ∙ held) }
+
+-- the gate of i
+gate_joined : (right : Bool) (P Q : ℕ → Type 0) (before after : ℕ → ℕ) (sides : ℕ → Bool → Side) (i a : ℕ) (h : Bool → ℕ) (x : ℕ) (gate : Lease) → IsRing P before sides →
+    Joins P Q before after sides i a h → P x → (sides x right).gate ≡ Some gate → gate.joiner ≡ i → HasGate right Q after x (sides x right).link gate
+gate_joined right P Q before after sides i a h x gate ring j px e same =
+    let g = (ring.side right x px).gated gate e in
+    let absent : P gate.joiner → ⊥ = λ p. j.absent (subst P same p) in
+    let before_link : stands right x i (sides x right).link ≡ true = subst (λ k. stands right x k (sides x right).link ≡ true) same g.between in
+    let is_i = (gate_held right P Q before after sides i a h x gate ring j px e same).is in
     let attempt : after gate.joiner ≡ gate.attempt = ap after same ∙ j.attempt ∙ sym (ap (λ (w : Lease). w.attempt) is_i) in
+    let next : IsNext right Q x i = next_in right P Q before after sides i a h x i j (added_next right P x (sides x right).link i ring.in_ring j.bound px (g.before absent) before_link) in
     record {
       bound = g.bound;
       between = g.between;
       attempt = omega arith;
       before = λ n. absurd (n (subst Q (sym same) (j.there i (inr refl))));
-      after = λ q. (
-        attempt,
-        subst (IsNext right Q x) (sym same)
-            (next_in right P Q before after sides i a h x i j (added_next right P x y i ring.in_ring j.bound px (g.before absent) before_link)),
-      );
+      after = λ q. (attempt, subst (IsNext right Q x) (sym same) next);
     }
 
 -- the gate of another

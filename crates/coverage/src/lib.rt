@@ -142,3 +142,6 @@ pub fn closest_of(ids: &[Id], key: Id) -> Option<usize>
     }
     Some(best)
 }
+
+#[cfg(test)]
+mod tests;
