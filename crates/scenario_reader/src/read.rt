@@ -1,13 +1,14 @@
 //! The reader of the scenario language.
 
-ghost use Rattle.std.specs.Prelude.{◌≡◌, ◌⊎◌, ◌+◌, ◌*◌, ◌^◌, ◌<◌, ◌≤◌, ◌∷◌, [], not, nat_le, nat_lt, length, map, position, vec_len, None, Ok, Err, IfOk, IfErr, IfSome, Contains, ok_or, option_map};
+ghost use Rattle.std.specs.Prelude.{◌≡◌, ◌⊎◌, ◌+◌, ◌*◌, ◌^◌, ◌<◌, ◌≤◌, ◌∷◌, [], not, nat_le, nat_lt, length, map, position, vec_len, None, Ok, Err, IfOk, IfErr, IfSome, IfNone, IsSome, Some, All, ◌≢◌, MatchResult, Contains, ok_or, option_map};
 ghost use Rattle.scenario_reader.specs.declared.fault.LineFault.TheVariants as fault;
-ghost use Rattle.scenario_reader.specs.Checks.{form_in, is_text_byte, is_known, settle_passes};
+ghost use Rattle.scenario_reader.specs.Checks.{form_in, is_text_byte, is_twice, leftmost, settle_passes};
+ghost use Rattle.scenario_reader.specs.Forms.{parts_of};
 ghost use Rattle.scenario_reader.specs.Grammar.{scenario_of, finished, read_line, read_words, read_known, read_form, is_comment};
 ghost use Rattle.scenario_reader.specs.Outcome.{Gives};
 ghost use Rattle.scenario_reader.specs.Rules.{KeepsRules};
 ghost use Rattle.scenario_reader.specs.declared.node.NodeLine.{NodeLine as PlainNode};
-ghost use Rattle.scenario_reader.specs.Plain.{ids, node_named};
+ghost use Rattle.scenario_reader.specs.Plain.{ids, node_names, node_named};
 ghost use Rattle.scenario_reader.specs.Spelling.{identifier_of};
 ghost use Rattle.scenario_reader.specs.Tallies.{tally_of};
 ghost use Rattle.scenario_reader.specs.Texts.{plain_word};
@@ -182,12 +183,7 @@ fn read_node(
         let place = name.place;
         return Err(LineFault::Name { line, place });
     }
-    if draft.id_named(name.text).is_some() {
-        let place = name.place;
-        return Err(LineFault::Twice { line, place });
-    }
-    if draft.has_id(identifier) {
-        let place = id.place;
+    if let Some(place) = place_of_twice(draft, name, id, identifier) {
         return Err(LineFault::Twice { line, place });
     }
     if draft.node_count() >= 256 {
@@ -196,6 +192,27 @@ fn read_node(
     }
     draft.add_node(alloc, name.text, identifier, line)?;
     Ok(())
+}
+
+/// The place of the leftmost word of a node's line that names another node.
+fn place_of_twice(
+    draft: &ScenarioBuilder,
+    name: &Word<'_>,
+    id: &Word<'_>,
+    identifier: Id,
+) -> Option<u32>
+    requires { identifier_of id.now.text.now ≡ Some identifier }
+    ensures value { result ≡ leftmost (is_twice draft.now) (parts_of Form.Node) (plain_word name.now ∷ plain_word id.now ∷ []) }
+    ensures new_name { IfNone result (All (λ other. other ≢ name.now.text.now) (node_names draft.now.nodes)) }
+    ensures new_id { IfNone result (All (λ other. other ≢ identifier) (ids draft.now.nodes)) }
+{
+    if draft.id_named(name.text).is_some() {
+        return Some(name.place);
+    }
+    if draft.has_id(identifier) {
+        return Some(id.place);
+    }
+    None
 }
 
 /// Reads `first NAME`.
@@ -222,9 +239,7 @@ fn read_lookup(
 {
     let key = identifier_at(line, key)?;
     let node = node_at(draft, line, name)?;
-    if !draft.has_founder() {
-        return Err(LineFault::NoFounder { line });
-    }
+    check_founded(draft, line)?;
     let what = What::Command {
         number: draft.next_number(),
         node,
@@ -254,15 +269,23 @@ fn read_settle(
         let place = count.place;
         return Err(LineFault::Number { line, place });
     };
-    if !draft.has_founder() {
-        return Err(LineFault::NoFounder { line });
-    }
+    check_founded(draft, line)?;
     if settle_passes(draft, amount) {
         let place = count.place;
         return Err(LineFault::Limit { line, place });
     }
     let what = What::Settle(amount as u32);
     draft.add_action(alloc, Action { line, what })?;
+    Ok(())
+}
+
+/// Refuses an action that no founder stands before.
+fn check_founded(draft: &ScenarioBuilder, line: u32) -> Result<(), LineFault>
+    ensures { MatchResult result (λ _. IsSome draft.now.founder) (λ e. (draft.now.founder ≡ None) × (e ≡ fault.NoFounder line)) }
+{
+    if !draft.has_founder() {
+        return Err(LineFault::NoFounder { line });
+    }
     Ok(())
 }
 
