@@ -8,7 +8,7 @@ use Rattle.std.proofs.lemmas.Slice.Eq.{bytes_eq-Decides}
 use Rattle.scenario_reader.specs.declared.node.NodeLine.{NodeLine}
 use Rattle.scenario_reader.specs.Plain.{ids, node_names, node_named}
 use Rattle.scenario_reader.specs.declared.words.Word.{Word}
-use Rattle.scenario_reader.specs.Texts.{plain_word}
+use Rattle.scenario_reader.specs.Words.{plain_word}
 
 -- where nothing came of an option, there was nothing
 pub None-from_option_map : {A B : Type 0} (f : A → B) (o : Option A) (answer : Option B) (found : Bool) → answer ≡ option_map f o → found ≡ is_some answer → found ≡ false → o ≡ None

@@ -1,17 +1,16 @@
 //! The reader of the scenario language.
 
-ghost use Rattle.std.specs.Prelude.{◌≡◌, ◌⊎◌, ◌+◌, ◌*◌, ◌^◌, ◌<◌, ◌≤◌, ◌∷◌, [], not, nat_le, nat_lt, length, map, position, vec_len, None, Ok, Err, IfOk, IfErr, IfSome, IfNone, IsSome, Some, All, ◌≢◌, MatchResult, Contains, ok_or, option_map};
+ghost use Rattle.std.specs.Prelude.{◌≡◌, ◌≢◌, ◌⊎◌, ◌+◌, ◌*◌, ◌^◌, ◌<◌, ◌≤◌, ◌∷◌, [], All, Contains, IfErr, IfNone, IfOk, IfSome, IsSome, MatchResult, length, map, not, ok_or, option_map, position};
 ghost use Rattle.scenario_reader.specs.declared.fault.LineFault.TheVariants as fault;
+ghost use Rattle.scenario_reader.specs.declared.node.NodeLine.{NodeLine as PlainNode};
 ghost use Rattle.scenario_reader.specs.Checks.{form_in, is_text_byte, is_twice, leftmost, settle_passes};
 ghost use Rattle.scenario_reader.specs.Forms.{parts_of};
-ghost use Rattle.scenario_reader.specs.Grammar.{scenario_of, finished, read_line, read_words, read_known, read_form, is_comment};
+ghost use Rattle.scenario_reader.specs.Grammar.{scenario_of, finished, read_line, read_words, read_form, is_comment};
 ghost use Rattle.scenario_reader.specs.Outcome.{Gives};
-ghost use Rattle.scenario_reader.specs.Rules.{KeepsRules};
-ghost use Rattle.scenario_reader.specs.declared.node.NodeLine.{NodeLine as PlainNode};
 ghost use Rattle.scenario_reader.specs.Plain.{ids, node_names, node_named};
+ghost use Rattle.scenario_reader.specs.Rules.{KeepsRules};
 ghost use Rattle.scenario_reader.specs.Spelling.{identifier_of};
-ghost use Rattle.scenario_reader.specs.Tallies.{tally_of};
-ghost use Rattle.scenario_reader.specs.Texts.{plain_word};
+ghost use Rattle.scenario_reader.specs.Words.{plain_word};
 
 use crate::action::{Action, What};
 use crate::builder::ScenarioBuilder;
@@ -25,6 +24,15 @@ use ring_math::{Id, id_from_hex};
 use std::alloc::Global;
 use wire_msg::Command;
 
+/// The most lines, bytes of a line without its end, nodes, and deliveries over a scenario.
+const LINES: u32 = 10_000;
+
+const LINE_BYTES: usize = 9_000;
+
+const NODES: usize = 256;
+
+const DELIVERIES: u64 = 1_000_000;
+
 /// The scenario that the bytes are, or their fault.
 ///
 /// Out of memory may come in the place of any answer.
@@ -37,7 +45,7 @@ pub fn read_scenario(alloc: Global, bytes: &[u8]) -> Result<Scenario, LineFault>
 {
     let mut draft = ScenarioBuilder::new(alloc);
     let mut rest = bytes;
-    for line in 1..10_001 {
+    for line in 1..LINES + 1 {
         if rest.is_empty() {
             return finished(draft, line);
         }
@@ -46,10 +54,10 @@ pub fn read_scenario(alloc: Global, bytes: &[u8]) -> Result<Scenario, LineFault>
         rest = behind;
     }
     if rest.is_empty() {
-        finished(draft, 10_001)
+        finished(draft, LINES + 1)
     } else {
         Err(LineFault::Limit {
-            line: 10_001,
+            line: LINES + 1,
             place: 0,
         })
     }
@@ -76,10 +84,10 @@ fn read_line(
 ) -> Result<(), LineFault>
     ensures { Gives (read_line draft.old line text.now) result draft.new }
 {
-    if text.len() > 9_000 {
+    if text.len() > LINE_BYTES {
         return Err(LineFault::TooLong { line });
     }
-    if let Some(place) = place_of_no_text(text) {
+    if let Some(place) = first_outside_text(text) {
         let place = place as u32;
         return Err(LineFault::NotText { line, place });
     }
@@ -88,7 +96,7 @@ fn read_line(
 }
 
 /// The place of the first byte outside 20 to 7e.
-fn place_of_no_text(text: &[u8]) -> Option<usize>
+fn first_outside_text(text: &[u8]) -> Option<usize>
     ensures value { result ≡ position (λ byte. not (is_text_byte byte)) text.now }
     ensures within { IfSome result (λ place. place < length text.now) }
 {
@@ -186,7 +194,7 @@ fn read_node(
     if let Some(place) = place_of_twice(draft, name, id, identifier) {
         return Err(LineFault::Twice { line, place });
     }
-    if draft.node_count() >= 256 {
+    if draft.node_count() >= NODES {
         let place = name.place;
         return Err(LineFault::Limit { line, place });
     }
@@ -294,7 +302,8 @@ fn settle_passes(draft: &ScenarioBuilder, amount: u64) -> bool
     ensures { result ≡ settle_passes draft.now amount }
 {
     let tally = draft.tally();
-    amount > 1_000_000 || u64::from(tally.deliveries) + amount * u64::from(tally.copies) > 1_000_000
+    amount > DELIVERIES
+        || u64::from(tally.deliveries) + amount * u64::from(tally.copies) > DELIVERIES
 }
 
 /// The identifier that a word spells.
