@@ -1,6 +1,6 @@
 -- What the outcomes of the reader's steps say of the words read.
 use Rattle.std.proofs.Common.{◌≡◌, ◌≢◌, ℕ, zero, suc, ◌==◌, ◌||◌, ◌<◌, ◌≤◌, Bool, true, false, cond, List, [], ◌∷◌, length, get_or, map, arith, refl}
-use Rattle.std.specs.Prelude.{All, Option, Some, None, Result, Ok, is_some, ok_or, option_map}
+use Rattle.std.specs.Prelude.{All, Option, Some, None, is_some, option_map}
 use Rattle.std.specs.List.{list_any}
 use Rattle.std.proofs.lemmas.Bool.{eqb-false}
 use Rattle.std.proofs.lemmas.Bool.Decides.{not_from_Decides}
@@ -8,12 +8,7 @@ use Rattle.std.proofs.lemmas.Slice.Eq.{bytes_eq-Decides}
 use Rattle.scenario_reader.specs.declared.node.NodeLine.{NodeLine}
 use Rattle.scenario_reader.specs.Plain.{ids, node_names, node_named}
 use Rattle.scenario_reader.specs.declared.words.Word.{Word}
-use Rattle.scenario_reader.specs.Texts.{plain_word}
-
--- what came as Ok was there
-pub Some-from_ok_or : {A E : Type 0} (answer : Result A E) (o : Option A) (e : E) (x : A) → answer ≡ ok_or o e → answer ≡ Ok x → o ≡ Some x
-Some-from_ok_or answer None e x is was = cc
-Some-from_ok_or answer (Some y) e x is was = cc
+use Rattle.scenario_reader.specs.Words.{plain_word}
 
 -- where nothing came of an option, there was nothing
 pub None-from_option_map : {A B : Type 0} (f : A → B) (o : Option A) (answer : Option B) (found : Bool) → answer ≡ option_map f o → found ≡ is_some answer → found ≡ false → o ≡ None

@@ -37,9 +37,7 @@ not_text n line = option_map (λ place. fault.NotText n place) (position (λ byt
 -- 3. the first word is none of the table's. For now a second `node` is none either.
 abbrev pub is_known : Draft → Form → Bool
 is_known draft Node = length draft.nodes == 0
-is_known draft First = true
-is_known draft Lookup = true
-is_known draft Settle = true
+is_known draft form = true
 
 abbrev pub form_in : Draft → List ℕ → Option Form
 form_in draft text = option_and_then (λ form. if is_known draft form then Some form else None) (form_of text)
@@ -51,22 +49,17 @@ wrong_count n form words =
 
 -- 5. no number
 abbrev pub is_no_number : Part → List ℕ → Bool
-is_no_number NewNode text = false
-is_no_number NewIdentifier text = false
-is_no_number OldNode text = false
-is_no_number Key text = false
 is_no_number SettleCount text = is_none (number_of text)
+is_no_number part text = false
 
 abbrev pub no_number : ℕ → Form → List Word → Option LineFault
 no_number n form words = option_map (λ place. fault.Number n place) (leftmost is_no_number (parts_of form) words)
 
 -- 6. no hexadecimal digits of the stated number
 abbrev pub is_no_hex : Part → List ℕ → Bool
-is_no_hex NewNode text = false
 is_no_hex NewIdentifier text = is_none (identifier_of text)
-is_no_hex OldNode text = false
 is_no_hex Key text = is_none (identifier_of text)
-is_no_hex SettleCount text = false
+is_no_hex part text = false
 
 abbrev pub no_hex : ℕ → Form → List Word → Option LineFault
 no_hex n form words = option_map (λ place. fault.Hex n place) (leftmost is_no_hex (parts_of form) words)
@@ -74,10 +67,8 @@ no_hex n form words = option_map (λ place. fault.Hex n place) (leftmost is_no_h
 -- 7. a name that is not spelled as one, or is used and was not declared before
 abbrev pub is_no_name : Draft → Part → List ℕ → Bool
 is_no_name draft NewNode text = not (is_name text)
-is_no_name draft NewIdentifier text = false
 is_no_name draft OldNode text = is_none (node_named draft.nodes text)
-is_no_name draft Key text = false
-is_no_name draft SettleCount text = false
+is_no_name draft part text = false
 
 abbrev pub no_name : Draft → ℕ → Form → List Word → Option LineFault
 no_name draft n form words =
@@ -91,9 +82,7 @@ has_id nodes (Some id) = list_any (λ (node : NodeLine). node.id == id) nodes
 abbrev pub is_twice : Draft → Part → List ℕ → Bool
 is_twice draft NewNode text = is_some (node_named draft.nodes text)
 is_twice draft NewIdentifier text = has_id draft.nodes (identifier_of text)
-is_twice draft OldNode text = false
-is_twice draft Key text = false
-is_twice draft SettleCount text = false
+is_twice draft part text = false
 
 abbrev pub twice : Draft → ℕ → Form → List Word → Option LineFault
 twice draft n form words =
@@ -105,10 +94,8 @@ no_founder draft n form = fault_if (is_action form && is_none draft.founder) (fa
 
 -- 10. a second founder
 abbrev pub is_first : Form → Bool
-is_first Node = false
 is_first First = true
-is_first Lookup = false
-is_first Settle = false
+is_first form = false
 
 abbrev pub second_founder : Draft → ℕ → Form → Option LineFault
 second_founder draft n form = fault_if (is_first form && is_some draft.founder) (fault.SecondFounder n)
@@ -123,10 +110,8 @@ settle_passes draft amount =
 
 abbrev pub passes : Draft → Part → List ℕ → Bool
 passes draft NewNode text = nat_le 256 (length draft.nodes)
-passes draft NewIdentifier text = false
-passes draft OldNode text = false
-passes draft Key text = false
 passes draft SettleCount text = settle_passes draft (unwrap_or (number_of text) 0)
+passes draft part text = false
 
 abbrev pub over_limit : Draft → ℕ → Form → List Word → Option LineFault
 over_limit draft n form words =

@@ -34,5 +34,4 @@ parts_of Settle = SettleCount ∷ []
 abbrev pub is_action : Form → Bool
 is_action Node = false
 is_action First = false
-is_action Lookup = true
-is_action Settle = true
+is_action form = true

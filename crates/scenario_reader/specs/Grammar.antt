@@ -3,7 +3,7 @@ use Rattle.std.specs.Prelude.{ℕ, ◌+◌, ◌==◌, nat_lt, Bool, false, if◌
 use Rattle.scenario_reader.specs.declared.fault.LineFault.{LineFault}
 use Rattle.scenario_reader.specs.declared.fault.LineFault.TheVariants as fault
 use Rattle.scenario_reader.specs.declared.form.Form.{Form}
-use Rattle.scenario_reader.specs.Plain.{PlainScenario, Draft, nothing_yet}
+use Rattle.scenario_reader.specs.Plain.{PlainScenario, Draft, nothing_yet, with_founder}
 use Rattle.scenario_reader.specs.Lines.{lines_of}
 use Rattle.scenario_reader.specs.Words.{Word, words_of}
 use Rattle.scenario_reader.specs.Checks.{too_long, not_text, form_in, wrong_count, no_number, no_hex, no_name, twice, no_founder, second_founder, over_limit}
@@ -15,20 +15,27 @@ abbrev pub ◌before◌ : Option LineFault → Option LineFault → Option LineF
 None before later = later
 (Some fault) before later = Some fault
 
--- the draft, unless there is a fault
-abbrev pub unless : Option LineFault → Draft → Result Draft LineFault
-unless None draft = Ok draft
-unless (Some fault) draft = Err fault
+-- what is read, unless there is a fault
+abbrev pub unless : Option LineFault → Result Draft LineFault → Result Draft LineFault
+unless None read = read
+unless (Some fault) read = Err fault
 
 -- the fault of line n, which has this form and these words behind the first
 abbrev pub form_fault : Draft → ℕ → Form → List Word → Option LineFault
 form_fault draft n form words =
-    wrong_count n form words before no_number n form words before no_hex n form words before no_name draft n form words before twice draft n form words before no_founder draft n form before second_founder draft n form before over_limit draft n form words
+    wrong_count n form words
+    before no_number n form words
+    before no_hex n form words
+    before no_name draft n form words
+    before twice draft n form words
+    before no_founder draft n form
+    before second_founder draft n form
+    before over_limit draft n form words
 
 abbrev pub read_form : Draft → ℕ → Form → List Word → Result Draft LineFault
-read_form draft n form words = unless (form_fault draft n form words) (after_form draft n form words)
+read_form draft n form words = unless (form_fault draft n form words) (Ok (after_form draft n form words))
 
--- a line whose first word is no form's
+-- a line of a form, or one whose first word, at this place, is none's
 abbrev pub read_known : Draft → ℕ → ℕ → Option Form → List Word → Result Draft LineFault
 read_known draft n place None words = Err (fault.Word n place)
 read_known draft n place (Some form) words = read_form draft n form words
@@ -44,20 +51,14 @@ read_words draft n [] = Ok draft
 read_words draft n (first ∷ words) =
     if is_comment first.text then Ok draft else read_known draft n first.place (form_in draft first.text) words
 
--- a line that is short enough, and text
-abbrev pub read_checked : Option LineFault → Result Draft LineFault → Result Draft LineFault
-read_checked None read = read
-read_checked (Some fault) read = Err fault
-
 -- what line n makes of a draft, or its fault
 abbrev pub read_line : Draft → ℕ → List ℕ → Result Draft LineFault
-read_line draft n line = read_checked (too_long n line before not_text n line) (read_words draft n (words_of line))
+read_line draft n line = unless (too_long n line before not_text n line) (read_words draft n (words_of line))
 
 -- after the last line, the next of which would be line n
 abbrev pub finished : Draft → ℕ → Option ℕ → Result PlainScenario LineFault
 finished draft n None = Err (fault.NoFounder n)
-finished draft n (Some founder) =
-    Ok (record { nodes = draft.nodes; founder = founder; files = draft.files; actions = draft.actions })
+finished draft n (Some founder) = Ok (with_founder draft founder)
 
 -- what a step gives is taken on, unless it is a fault
 abbrev pub and_then : Result Draft LineFault → (Draft → Result PlainScenario LineFault) → Result PlainScenario LineFault

@@ -4,7 +4,6 @@ pub mod Rules
 pub mod Spelling
 pub mod Lines
 pub mod Words
-pub mod Texts
 pub mod Forms
 pub mod Checks
 pub mod Effects

@@ -21,6 +21,11 @@ pub record Draft : Type 0 where
 abbrev pub nothing_yet : Draft
 nothing_yet = record { nodes = []; founder = None; files = []; actions = [] }
 
+-- the scenario that a draft comes to with this founder
+abbrev pub with_founder : Draft → ℕ → PlainScenario
+with_founder draft founder =
+    record { nodes = draft.nodes; founder = founder; files = draft.files; actions = draft.actions }
+
 -- the identifiers of nodes
 abbrev pub ids : List NodeLine → List ℕ
 ids nodes = map (λ (node : NodeLine). node.id) nodes

@@ -1,6 +1,7 @@
 -- The words of a line, each with the place of its first byte.
 use Rattle.std.specs.Prelude.{ℕ, ◌+◌, ◌==◌, Bool, List, [], ◌∷◌, length}
 use Rattle.std.specs.List.{slice_split}
+use Rattle.scenario_reader.specs.declared.words.Word.{Word as CodeWord}
 
 pub record Word : Type 0 where
   pub place : ℕ
@@ -21,3 +22,7 @@ is_space byte = byte == 32
 
 abbrev pub words_of : List ℕ → List Word
 words_of line = words_from 0 (slice_split is_space line)
+
+-- a word of the code, as a value
+abbrev pub plain_word : CodeWord → Word
+plain_word word = record { place = word.place; text = word.text.now }

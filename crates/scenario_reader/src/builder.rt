@@ -3,9 +3,8 @@
 ghost use Rattle.std.specs.Prelude.{◌≡◌, ◌+◌, ◌==◌, ◌≤◌, Some, Ok, OnOk, OnErr, IfSome, IsSome, Contains, IsTrue, is_some, length, option_map};
 ghost use Rattle.std.specs.List.{list_any};
 ghost use Rattle.scenario_reader.specs.declared.node.NodeLine.{NodeLine as PlainNode};
-ghost use Rattle.scenario_reader.specs.Plain.{nothing_yet, ids, node_named};
+ghost use Rattle.scenario_reader.specs.Plain.{nothing_yet, with_founder, ids, node_named};
 ghost use Rattle.scenario_reader.specs.Effects.{with_node, with_file, with_action};
-ghost use Rattle.scenario_reader.specs.Grammar.{finished};
 ghost use Rattle.scenario_reader.specs.Rules.{KeepsRules, MayDeclareNode, MayDeclareFile, MayFound, MayAct};
 ghost use Rattle.scenario_reader.specs.Spelling.{is_name};
 ghost use Rattle.scenario_reader.specs.Tallies.{tally_of};
@@ -119,7 +118,7 @@ impl ScenarioBuilder {
     /// The scenario that was put together.
     pub fn finish(self) -> Scenario
         requires { IsSome self.founder }
-        ensures same { finished self 1 self.founder ≡ Ok result }
+        ensures scenario { IfSome self.founder (λ founder. result ≡ with_founder self founder) }
         ensures rules { KeepsRules result }
     {
         Scenario {

@@ -12,6 +12,8 @@ mod read;
 mod scenario;
 mod spelling;
 mod tally;
+#[cfg(test)]
+mod tests;
 mod words;
 
 pub use action::{Action, What};

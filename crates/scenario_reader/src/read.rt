@@ -1,16 +1,16 @@
 //! The reader of the scenario language.
 
-ghost use Rattle.std.specs.Prelude.{◌≡◌, ◌⊎◌, ◌+◌, ◌*◌, ◌^◌, ◌<◌, ◌≤◌, ◌∷◌, [], not, nat_le, nat_lt, length, map, position, vec_len, None, Ok, Err, IfOk, IfErr, IfSome, Contains, ok_or, option_map};
+ghost use Rattle.std.specs.Prelude.{◌≡◌, ◌≢◌, ◌⊎◌, ◌+◌, ◌*◌, ◌^◌, ◌<◌, ◌≤◌, ◌∷◌, [], All, Contains, IfErr, IfNone, IfOk, IfSome, IsSome, MatchResult, length, map, not, ok_or, option_map, position};
 ghost use Rattle.scenario_reader.specs.declared.fault.LineFault.TheVariants as fault;
-ghost use Rattle.scenario_reader.specs.Checks.{form_in, is_text_byte, is_known, settle_passes};
-ghost use Rattle.scenario_reader.specs.Grammar.{scenario_of, finished, read_line, read_words, read_known, read_form, is_comment};
-ghost use Rattle.scenario_reader.specs.Outcome.{Gives};
-ghost use Rattle.scenario_reader.specs.Rules.{KeepsRules};
 ghost use Rattle.scenario_reader.specs.declared.node.NodeLine.{NodeLine as PlainNode};
-ghost use Rattle.scenario_reader.specs.Plain.{ids, node_named};
+ghost use Rattle.scenario_reader.specs.Checks.{form_in, is_text_byte, is_twice, leftmost, settle_passes};
+ghost use Rattle.scenario_reader.specs.Forms.{parts_of};
+ghost use Rattle.scenario_reader.specs.Grammar.{scenario_of, finished, read_line, read_words, read_form, is_comment};
+ghost use Rattle.scenario_reader.specs.Outcome.{Gives};
+ghost use Rattle.scenario_reader.specs.Plain.{ids, node_names, node_named};
+ghost use Rattle.scenario_reader.specs.Rules.{KeepsRules};
 ghost use Rattle.scenario_reader.specs.Spelling.{identifier_of};
-ghost use Rattle.scenario_reader.specs.Tallies.{tally_of};
-ghost use Rattle.scenario_reader.specs.Texts.{plain_word};
+ghost use Rattle.scenario_reader.specs.Words.{plain_word};
 
 use crate::action::{Action, What};
 use crate::builder::ScenarioBuilder;
@@ -24,6 +24,15 @@ use ring_math::{Id, id_from_hex};
 use std::alloc::Global;
 use wire_msg::Command;
 
+/// The most lines, bytes of a line without its end, nodes, and deliveries over a scenario.
+const LINES: u32 = 10_000;
+
+const LINE_BYTES: usize = 9_000;
+
+const NODES: usize = 256;
+
+const DELIVERIES: u64 = 1_000_000;
+
 /// The scenario that the bytes are, or their fault.
 ///
 /// Out of memory may come in the place of any answer.
@@ -36,7 +45,7 @@ pub fn read_scenario(alloc: Global, bytes: &[u8]) -> Result<Scenario, LineFault>
 {
     let mut draft = ScenarioBuilder::new(alloc);
     let mut rest = bytes;
-    for line in 1..10_001 {
+    for line in 1..LINES + 1 {
         if rest.is_empty() {
             return finished(draft, line);
         }
@@ -45,10 +54,10 @@ pub fn read_scenario(alloc: Global, bytes: &[u8]) -> Result<Scenario, LineFault>
         rest = behind;
     }
     if rest.is_empty() {
-        finished(draft, 10_001)
+        finished(draft, LINES + 1)
     } else {
         Err(LineFault::Limit {
-            line: 10_001,
+            line: LINES + 1,
             place: 0,
         })
     }
@@ -75,10 +84,10 @@ fn read_line(
 ) -> Result<(), LineFault>
     ensures { Gives (read_line draft.old line text.now) result draft.new }
 {
-    if text.len() > 9_000 {
+    if text.len() > LINE_BYTES {
         return Err(LineFault::TooLong { line });
     }
-    if let Some(place) = place_of_no_text(text) {
+    if let Some(place) = first_outside_text(text) {
         let place = place as u32;
         return Err(LineFault::NotText { line, place });
     }
@@ -87,7 +96,7 @@ fn read_line(
 }
 
 /// The place of the first byte outside 20 to 7e.
-fn place_of_no_text(text: &[u8]) -> Option<usize>
+fn first_outside_text(text: &[u8]) -> Option<usize>
     ensures value { result ≡ position (λ byte. not (is_text_byte byte)) text.now }
     ensures within { IfSome result (λ place. place < length text.now) }
 {
@@ -182,20 +191,36 @@ fn read_node(
         let place = name.place;
         return Err(LineFault::Name { line, place });
     }
-    if draft.id_named(name.text).is_some() {
-        let place = name.place;
+    if let Some(place) = place_of_twice(draft, name, id, identifier) {
         return Err(LineFault::Twice { line, place });
     }
-    if draft.has_id(identifier) {
-        let place = id.place;
-        return Err(LineFault::Twice { line, place });
-    }
-    if draft.node_count() >= 256 {
+    if draft.node_count() >= NODES {
         let place = name.place;
         return Err(LineFault::Limit { line, place });
     }
     draft.add_node(alloc, name.text, identifier, line)?;
     Ok(())
+}
+
+/// The place of the leftmost word of a node's line that names another node.
+fn place_of_twice(
+    draft: &ScenarioBuilder,
+    name: &Word<'_>,
+    id: &Word<'_>,
+    identifier: Id,
+) -> Option<u32>
+    requires { identifier_of id.now.text.now ≡ Some identifier }
+    ensures value { result ≡ leftmost (is_twice draft.now) (parts_of Form.Node) (plain_word name.now ∷ plain_word id.now ∷ []) }
+    ensures new_name { IfNone result (All (λ other. other ≢ name.now.text.now) (node_names draft.now.nodes)) }
+    ensures new_id { IfNone result (All (λ other. other ≢ identifier) (ids draft.now.nodes)) }
+{
+    if draft.id_named(name.text).is_some() {
+        return Some(name.place);
+    }
+    if draft.has_id(identifier) {
+        return Some(id.place);
+    }
+    None
 }
 
 /// Reads `first NAME`.
@@ -222,9 +247,7 @@ fn read_lookup(
 {
     let key = identifier_at(line, key)?;
     let node = node_at(draft, line, name)?;
-    if !draft.has_founder() {
-        return Err(LineFault::NoFounder { line });
-    }
+    check_founded(draft, line)?;
     let what = What::Command {
         number: draft.next_number(),
         node,
@@ -254,9 +277,7 @@ fn read_settle(
         let place = count.place;
         return Err(LineFault::Number { line, place });
     };
-    if !draft.has_founder() {
-        return Err(LineFault::NoFounder { line });
-    }
+    check_founded(draft, line)?;
     if settle_passes(draft, amount) {
         let place = count.place;
         return Err(LineFault::Limit { line, place });
@@ -266,12 +287,23 @@ fn read_settle(
     Ok(())
 }
 
+/// Refuses an action that no founder stands before.
+fn check_founded(draft: &ScenarioBuilder, line: u32) -> Result<(), LineFault>
+    ensures { MatchResult result (λ _. IsSome draft.now.founder) (λ e. (draft.now.founder ≡ None) × (e ≡ fault.NoFounder line)) }
+{
+    if !draft.has_founder() {
+        return Err(LineFault::NoFounder { line });
+    }
+    Ok(())
+}
+
 /// Whether a settle of so many deliveries passes a limit.
 fn settle_passes(draft: &ScenarioBuilder, amount: u64) -> bool
     ensures { result ≡ settle_passes draft.now amount }
 {
     let tally = draft.tally();
-    amount > 1_000_000 || u64::from(tally.deliveries) + amount * u64::from(tally.copies) > 1_000_000
+    amount > DELIVERIES
+        || u64::from(tally.deliveries) + amount * u64::from(tally.copies) > DELIVERIES
 }
 
 /// The identifier that a word spells.

@@ -1,8 +1,7 @@
 //! The words of a line.
 
 ghost use Rattle.std.specs.Prelude.{◌≡◌, ◌+◌, ◌≤◌, ◌++◌, [], length, map, vec_len, IfOk, OnOk};
-ghost use Rattle.scenario_reader.specs.Words.{words_of, with_piece};
-ghost use Rattle.scenario_reader.specs.Texts.{plain_word};
+ghost use Rattle.scenario_reader.specs.Words.{plain_word, with_piece, words_of};
 
 use memchr::memchr;
 use ring_math::OutOfMemory;

@@ -1,6 +1,6 @@
 use Rattle.std.proofs.Common.{◌+◌, length, map, arith, ◌∙◌, length-drop}
 use Rattle.std.proofs.lemmas.List.{take_rest}
-use Rattle.scenario_reader.specs.Texts.{plain_word}
+use Rattle.scenario_reader.specs.Words.{plain_word}
 use Rattle.scenario_reader.proofs.Cuts.{NoneBelow-from_search}
 use Rattle.scenario_reader.proofs.Pieces.{words_from-cut, words_from-last}
 use Rattle.scenario_reader.proofs.words.words_in.Goals as goal

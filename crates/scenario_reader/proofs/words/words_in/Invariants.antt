@@ -1,7 +1,7 @@
 use Rattle.std.proofs.Common.{◌≡◌, ◌+◌, ◌≤◌, ◌++◌, length, map, vec_len}
 use Rattle.std.specs.List.{slice_split}
 use Rattle.scenario_reader.specs.Words.{is_space, words_from, words_of}
-use Rattle.scenario_reader.specs.Texts.{plain_word}
+use Rattle.scenario_reader.specs.Words.{plain_word}
 use Rattle.scenario_reader.proofs.words.words_in.Given as goal
 
 -- the words so far, and those of the rest, are the words of the line
