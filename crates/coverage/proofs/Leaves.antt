@@ -1,5 +1,5 @@
 -- The first leaf of a side is the known node to which the way is least: placing by distance keeps the least in front.
-use Rattle.std.proofs.Common.{◌≡◌, ℕ, Bool, true, false, ◌<◌, ◌≤◌, ◌⊎◌, List, [], ◌∷◌, take, refl, sym, subst, ap, ltb, arith, inl, inr}
+use Rattle.std.proofs.Common.{◌≡◌, ℕ, ◌⊎◌, List, [], ◌∷◌, take, refl, sym, subst, ap, ltb, arith, inl, inr}
 use Rattle.std.specs.List.{Contains}
 use Rattle.std.proofs.lemmas.Bool.{cases_Bool, cond-true, cond-false}
 use Rattle.std.proofs.lemmas.Bool.Decides.{nat_tests}
@@ -16,7 +16,8 @@ pub record StartsWithLeast (far : ℕ → ℕ) (P : ℕ → Type 0) (xs : List �
   pub is : xs ≡ head ∷ rest
   pub least : IsLeast far P head
 
-starts_same : (far : ℕ → ℕ) (P Q : ℕ → Type 0) (xs : List ℕ) → ((z : ℕ) → P z → Q z) → ((z : ℕ) → Q z → P z) → StartsWithLeast far P xs → StartsWithLeast far Q xs
+starts_same : (far : ℕ → ℕ) (P Q : ℕ → Type 0) (xs : List ℕ) → ((z : ℕ) → P z → Q z) → ((z : ℕ) → Q z → P z) → StartsWithLeast far P xs →
+    StartsWithLeast far Q xs
 starts_same far P Q xs there back h = record {
   head = h.head;
   rest = h.rest;
@@ -48,7 +49,8 @@ placed_on far P x ys h = subst (λ zs. StartsWithLeast far (with P x) (placed fa
 abbrev or_in : (ℕ → Type 0) → List ℕ → ℕ → Type 0
 or_in P xs z = P z ⊎ Contains xs z
 
-placed_all_least : (far : ℕ → ℕ) (P : ℕ → Type 0) (ys xs : List ℕ) → StartsWithLeast far P ys → StartsWithLeast far (or_in P xs) (placed_all far ys xs)
+placed_all_least : (far : ℕ → ℕ) (P : ℕ → Type 0) (ys xs : List ℕ) → StartsWithLeast far P ys →
+    StartsWithLeast far (or_in P xs) (placed_all far ys xs)
 placed_all_least far P ys [] h = starts_same far P (or_in P []) ys (λ z p. inl p) none h where
   none : (z : ℕ) → P z ⊎ Contains [] z → P z
   none z (inl p) = p
@@ -77,7 +79,8 @@ nearest_first_least far x xs =
       back z c = Contains-cases x xs z c
 
 -- the first leaf of a side, of a list that holds anybody
-first_is_least : (far : ℕ → ℕ) (otherwise y : ℕ) (known : List ℕ) → Contains known y → IsLeast far (Contains known) (first_or otherwise (take 8 (nearest_first far known)))
+first_is_least : (far : ℕ → ℕ) (otherwise y : ℕ) (known : List ℕ) → Contains known y →
+    IsLeast far (Contains known) (first_or otherwise (take 8 (nearest_first far known)))
 first_is_least far otherwise y [] c = absurd (Contains-none y c)
 first_is_least far otherwise y (x ∷ xs) c =
     let h = nearest_first_least far x xs in

@@ -1,5 +1,5 @@
 -- Which keys a node covers by its links and the joiners beside it, and which it keeps for a joiner.
-use Rattle.std.specs.Prelude.{ℕ, ◌==◌, nat_le, nat_lt, Bool, false, not, ◌&&◌, ◌||◌, if◌then◌else◌, Option, Some, None, is_none}
+use Rattle.std.specs.Prelude.{ℕ, ◌==◌, nat_le, nat_lt, Bool, not, ◌&&◌, ◌||◌, if◌then◌else◌, Option, Some, None, is_none}
 use Rattle.ring_math.specs.Ring.{cw_of, is_between}
 use Rattle.coverage.specs.declared.Reach.{Reach}
 

@@ -1,6 +1,6 @@
 -- Digits in base 16 as bits: one digit by a shift and a mask, and the digits in common by leading zeros.
 -- Two numbers have the digits before place m in common where `a / 16 ^ m ≡ b / 16 ^ m`.
-use Rattle.std.proofs.Common.{◌≡◌, ◌≢◌, ℕ, suc, zero, ◌+◌, ◌*◌, ◌^◌, ◌%◌, ◌/◌, ◌-◌, ◌<◌, ◌≤◌, refl, ◌⊎◌, sym, ◌∙◌, ap, lit<, arith, inl, inr}
+use Rattle.std.proofs.Common.{◌≡◌, ◌≢◌, ℕ, suc, zero, ◌+◌, ◌*◌, ◌^◌, ◌%◌, ◌/◌, ◌<◌, ◌≤◌, refl, ◌⊎◌, sym, ◌∙◌, ap, lit<, arith, inl, inr}
 use Rattle.std.specs.Prelude.{bit_and, bit_xor}
 use Rattle.std.specs.Int.Count.{count_leading_zeros}
 use Rattle.std.specs.Int.Bits.{xor_self, xor_add_and}
