@@ -3,6 +3,7 @@
 use Rattle.std.proofs.Common.{◌≡◌, ℕ, Bool, true, false, ◌&&◌, not, ◌^◌, ◌<◌, ◌≤◌, ◌⊎◌, ◌≢◌, Option, Some, None, refl, sym, ◌∙◌, ap, subst, arith, inl, inr}
 use Rattle.std.proofs.lemmas.Bool.{cases_Bool, cases_eq, cond-true, cond-false}
 use Rattle.std.proofs.lemmas.Bool.Decides.{nat_tests}
+use Rattle.std.proofs.lemmas.Option.{same_Some}
 use Rattle.coverage.specs.declared.Reach.{Reach}
 use Rattle.coverage.specs.Coverage.{in_arcs, covers_of, gap_of, gap_for, or_else, in_gap_of, taken_of, without, is_alone, left_end, right_end, left_with, right_with}
 use Rattle.coverage.specs.Links.{stands}
@@ -33,12 +34,9 @@ pub cases_Option : (o : Option ℕ) → (o ≡ None) ⊎ ((j : ℕ) × (o ≡ So
 cases_Option None = inl refl
 cases_Option (Some j) = inr (j, refl)
 
-some_apart : (i j : ℕ) → Some i ≡ Some j → i ≡ j
-some_apart i j e = cc
-
 pub cases_joiner : (o : Option ℕ) (j : ℕ) → (o ≡ Some j) ⊎ (o ≡ Some j → ⊥)
 cases_joiner None j = inr (λ e. cc)
-cases_joiner (Some i) j = elim (cases_eq i j) [ inl e ↦ inl (ap Some e) | inr ne ↦ inr (λ e. ne (some_apart i j e)) ]
+cases_joiner (Some i) j = elim (cases_eq i j) [ inl e ↦ inl (ap Some e) | inr ne ↦ inr (λ e. ne (same_Some i j e)) ]
 
 -- ---- where the arcs end
 
@@ -72,8 +70,8 @@ taken_of-other None j ne = refl
 taken_of-other (Some i) j ne = grind (arith, nat_tests, ne, cases_eq i j)
 
 pub joiner_on-other : (right : Bool) (r : Reach) (i j : ℕ) → joiner_on right r ≡ Some i → i ≢ j → joiner_on right (without r j) ≡ Some i
-joiner_on-other true r i j e ne = taken_of-other r.right_joiner j (λ f. ne (some_apart i j (sym e ∙ f))) ∙ e
-joiner_on-other false r i j e ne = taken_of-other r.left_joiner j (λ f. ne (some_apart i j (sym e ∙ f))) ∙ e
+joiner_on-other true r i j e ne = taken_of-other r.right_joiner j (λ f. ne (same_Some i j (sym e ∙ f))) ∙ e
+joiner_on-other false r i j e ne = taken_of-other r.left_joiner j (λ f. ne (same_Some i j (sym e ∙ f))) ∙ e
 
 -- and without a joiner of the other side alone it ends where it did
 pub end_on-other : (right : Bool) (r : Reach) (j : ℕ) → (joiner_on right r ≡ Some j → ⊥) → end_on right (without r j) ≡ end_on right r

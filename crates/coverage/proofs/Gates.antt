@@ -1,5 +1,6 @@
 -- Links and gates: what they say is what coverage asks (`IsEnded`), and what each step of a join makes of one side of a node.
 use Rattle.std.proofs.Common.{◌≡◌, ℕ, Bool, true, ◌^◌, ◌<◌, ◌≤◌, ◌⊎◌, Option, Some, None, refl, sym, ◌∙◌, ap, subst, arith, inl, inr}
+use Rattle.std.proofs.lemmas.Option.{same_Some}
 use Rattle.ring_math.specs.Members.{InRing}
 use Rattle.coverage.specs.declared.Reach.{Reach}
 use Rattle.coverage.specs.Links.{IsNext, stands, Lease, Side, HasGate, HasSide, joiner_of}
@@ -49,9 +50,6 @@ side_ends right P attempt_of x r side member range px me link joiner h =
           (subst (λ y. HasGate right P attempt_of x y gate) (sym link) (h.gated gate e))
     ]
 
-pub gate_apart : (g h : Lease) → Some g ≡ Some h → g ≡ h
-gate_apart g h e = cc
-
 -- ---- a side that stays, while others change
 
 -- nobody becomes a member, and only who is none may raise its attempt
@@ -91,7 +89,7 @@ pub side_granted : (right : Bool) (P : ℕ → Type 0) (attempt_of : ℕ → ℕ
 side_granted right P attempt_of x i a side range px h e hi b le = record {
   free = λ f. cc;
   gated = λ gate f.
-      let same : record { joiner = i; attempt = a } ≡ gate = gate_apart (record { joiner = i; attempt = a }) gate f in
+      let same : record { joiner = i; attempt = a } ≡ gate = same_Some (record { joiner = i; attempt = a }) gate f in
       subst (HasGate right P attempt_of x side.link) same (record {
         bound = hi;
         between = b;

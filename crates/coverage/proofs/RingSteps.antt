@@ -2,20 +2,20 @@
 -- So an induction over histories has to show no more than what its step makes of each side.
 use Rattle.std.proofs.Common.{◌≡◌, ◌≢◌, ℕ, Bool, true, false, not, ◌^◌, ◌<◌, ◌≤◌, ◌⊎◌, Some, None, refl, sym, ◌∙◌, ap, subst, arith, inl, inr}
 use Rattle.std.proofs.lemmas.Bool.{cases_eq, cases_Bool}
+use Rattle.std.proofs.lemmas.Option.{same_Some}
 use Rattle.ring_math.specs.Members.{IsClosest, with}
 use Rattle.coverage.specs.declared.Reach.{Reach}
 use Rattle.coverage.specs.Coverage.{covers_of}
 use Rattle.coverage.specs.Links.{IsNext, stands, members, Lease, Side, HasGate, HasSide, IsRing, KeepsFor, reach_of}
 use Rattle.coverage.proofs.Ways.{next_same, next_alone}
 use Rattle.coverage.proofs.Added.{InRing-with, added_next, added_from, added_other, one_holder}
-use Rattle.coverage.proofs.Owner.{IsEnded, EndsRight, Owns, covers, keeps, covers_closest, one_covers, closest_owns}
-use Rattle.coverage.proofs.Gates.{StaysSame, side_ends, side_free, side_stays, gate_apart}
+use Rattle.coverage.proofs.Owner.{IsEnded, EndsRight, Owns, covers, keeps, covers_closest, one_covers, closest_owns, gap_closest}
+use Rattle.coverage.proofs.Gates.{StaysSame, side_ends, side_free, side_stays}
 
 -- ---- one owner over the ring
 
 reach_ends : (right : Bool) (P : ℕ → Type 0) (attempt_of : ℕ → ℕ) (sides : ℕ → Bool → Side) (x : ℕ) → ((j : ℕ) → P j ⊎ (P j → ⊥)) →
-    IsRing P attempt_of sides → P x →
-    EndsRight right P x (reach_of x (sides x))
+    IsRing P attempt_of sides → P x → EndsRight right P x (reach_of x (sides x))
 reach_ends true P attempt_of sides x member ring px = side_ends true P attempt_of x (reach_of x (sides x)) (sides x true) member ring.in_ring px refl refl refl (ring.side true x px)
 reach_ends false P attempt_of sides x member ring px = side_ends false P attempt_of x (reach_of x (sides x)) (sides x false) member ring.in_ring px refl refl refl (ring.side false x px)
 
@@ -26,16 +26,14 @@ ring-ended P attempt_of sides x member ring px = record { me = refl; side = λ r
 pub is_member : (test : ℕ → Bool) (j : ℕ) → members test j ⊎ (members test j → ⊥)
 is_member test j = elim (cases_Bool (test j)) [ inl a ↦ inl a | inr b ↦ inr (λ a. cc) ]
 
-pub ring_one : (ready : ℕ → Bool) (attempt_of : ℕ → ℕ) (sides : ℕ → Bool → Side) (x y key : ℕ) → IsRing (members ready) attempt_of sides →
-    key < 2 ^ 128 →
-    members ready x → members ready y → covers_of (reach_of x (sides x)) key ≡ true → covers_of (reach_of y (sides y)) key ≡ true → x ≡ y
+pub ring_one : (ready : ℕ → Bool) (attempt_of : ℕ → ℕ) (sides : ℕ → Bool → Side) (x y key : ℕ) →
+    IsRing (members ready) attempt_of sides → key < 2 ^ 128 → members ready x → members ready y → covers_of (reach_of x (sides x)) key ≡ true → covers_of (reach_of y (sides y)) key ≡ true → x ≡ y
 ring_one ready attempt_of sides x y key ring hk px py cx cy =
     one_covers (members ready) x y key (reach_of x (sides x)) (reach_of y (sides y)) ring.in_ring hk px py
     (ring-ended (members ready) attempt_of sides x (is_member ready) ring px) (ring-ended (members ready) attempt_of sides y (is_member ready) ring py) cx cy
 
-pub ring_right : (ready : ℕ → Bool) (attempt_of : ℕ → ℕ) (sides : ℕ → Bool → Side) (x key : ℕ) → IsRing (members ready) attempt_of sides →
-    key < 2 ^ 128 →
-    members ready x → covers_of (reach_of x (sides x)) key ≡ true → IsClosest (members ready) key x
+pub ring_right : (ready : ℕ → Bool) (attempt_of : ℕ → ℕ) (sides : ℕ → Bool → Side) (x key : ℕ) →
+    IsRing (members ready) attempt_of sides → key < 2 ^ 128 → members ready x → covers_of (reach_of x (sides x)) key ≡ true → IsClosest (members ready) key x
 ring_right ready attempt_of sides x key ring hk px h =
     covers_closest (members ready) x key (reach_of x (sides x)) ring.in_ring hk px (ring-ended (members ready) attempt_of sides x (is_member ready) ring px) h
 
@@ -49,6 +47,11 @@ pub ring_owned : (ready : ℕ → Bool) (attempt_of : ℕ → ℕ) (sides : ℕ 
 ring_owned ready attempt_of sides x key ring hk c =
     owned (members ready) (reach_of x (sides x)) key
     (closest_owns (members ready) x key (reach_of x (sides x)) ring.in_ring hk (ring-ended (members ready) attempt_of sides x (is_member ready) ring c.member) c)
+
+pub ring_kept : (ready : ℕ → Bool) (attempt_of : ℕ → ℕ) (sides : ℕ → Bool → Side) (x j key : ℕ) → IsRing (members ready) attempt_of sides → key < 2 ^ 128 →
+    members ready x → KeepsFor (members ready) (reach_of x (sides x)) key j → IsClosest (members ready) key x
+ring_kept ready attempt_of sides x j key ring hk px h =
+    gap_closest (members ready) x j key (reach_of x (sides x)) ring.in_ring hk px h.absent (ring-ended (members ready) attempt_of sides x (is_member ready) ring px) h.gap
 
 -- ---- the start, and a step at which nobody becomes a member
 
@@ -132,7 +135,7 @@ gate_held right {P} {Q} {before} {after} {sides} {i} {a} {holder} x gate ring j 
     let inside : stands right x i y ≡ true = subst (λ k. stands right x k y ≡ true) same h.between in
     let at_holder : x ≡ holder right = one_holder right P x (holder right) y (holder (not right)) i ring.in_ring j.bound j.absent px (j.held right) next b.next inside b.between in
     let held : (sides x right).gate ≡ Some mine = subst (λ w. (sides w right).gate ≡ Some mine) (sym at_holder) (j.gate right) in
-    record { at = at_holder; is = gate_apart gate mine (sym e ∙ held) }
+    record { at = at_holder; is = same_Some gate mine (sym e ∙ held) }
 
 -- the gate of i
 gate_joined : (right : Bool) {P Q : ℕ → Type 0} {before after : ℕ → ℕ} {sides : ℕ → Bool → Side} {i a : ℕ} {holder : Bool → ℕ} (x : ℕ) (gate : Lease) →
@@ -160,7 +163,7 @@ gate_other : (right : Bool) {P Q : ℕ → Type 0} {before after : ℕ → ℕ} 
 gate_other right {P} {Q} {before} {after} {sides} {i} {a} {holder} x gate ring j px e ne =
     let mine : Lease = record { joiner = i; attempt = a } in
     let h = (ring.side right x px).gated gate e in
-    let elsewhere : x ≢ holder right = not_holder right x j (λ f. ne (ap (λ (w : Lease). w.joiner) (gate_apart gate mine (sym e ∙ f)))) in
+    let elsewhere : x ≢ holder right = not_holder right x j (λ f. ne (ap (λ (w : Lease). w.joiner) (same_Some gate mine (sym e ∙ f)))) in
     let stays : (y : ℕ) → IsNext right P x y → IsNext right Q x y = λ y n. next_other right x y ring j px elsewhere n in
     let was : Q gate.joiner → P gate.joiner = λ q. elim (j.back gate.joiner q) [ inl p ↦ p | inr f ↦ absurd (ne f) ] in
     record {

@@ -2,3 +2,4 @@ pub mod Coverage
 pub mod Closest
 pub mod NextHop
 pub mod Links
+pub mod Known
