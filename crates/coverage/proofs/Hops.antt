@@ -97,7 +97,8 @@ link_bound : (right : Bool) (r : Reach) (known : List ℕ) → KnowsLinks r know
 link_bound right r known k = elim (link_known right r known k) [ inl e ↦ rw e k.me | inr c ↦ k.in_ring (link_on right r) c ]
 
 -- a link that is nearer is known, and so a leaf is nearer
-leaf_from_link : (right : Bool) (r : Reach) (known : List ℕ) (key : ℕ) → KnowsLinks r known → key < 2 ^ 128 → is_nearer (link_on right r) r.me key ≡ true →
+leaf_from_link : (right : Bool) (r : Reach) (known : List ℕ) (key : ℕ) → KnowsLinks r known → key < 2 ^ 128 →
+    is_nearer (link_on right r) r.me key ≡ true →
     HasNearerLeaf r.me known key
 leaf_from_link right r known key k hk h =
     elim (link_known right r known k) [
@@ -120,7 +121,8 @@ has_nearer_leaf r known key k hk out none =
 stays_here : (r : Reach) (known : List ℕ) (key : ℕ) → covers_of r key ≡ true → next_hop_of r known key ≡ Here
 stays_here r known key e = cond-true (covers_of r key) Here _ e
 
-goes_on : (r : Reach) (known : List ℕ) (key : ℕ) (o : Option ℕ) → covers_of r key ≡ false → gap_of r key ≡ o → next_hop_of r known key ≡ unless_gap r known key o
+goes_on : (r : Reach) (known : List ℕ) (key : ℕ) (o : Option ℕ) → covers_of r key ≡ false → gap_of r key ≡ o →
+    next_hop_of r known key ≡ unless_gap r known key o
 goes_on r known key o e g = cond-false (covers_of r key) Here _ e ∙ ap (unless_gap r known key) g
 
 pub next_hop-names : (r : Reach) (known : List ℕ) (key : ℕ) → KnowsLinks r known → key < 2 ^ 128 → covers_of r key ≡ false → gap_of r key ≡ None →

@@ -48,7 +48,8 @@ ring_owned ready attempt_of sides x key ring hk c =
     owned (members ready) (reach_of x (sides x)) key
     (closest_owns (members ready) x key (reach_of x (sides x)) ring.in_ring hk (ring-ended (members ready) attempt_of sides x (is_member ready) ring c.member) c)
 
-pub ring_kept : (ready : ℕ → Bool) (attempt_of : ℕ → ℕ) (sides : ℕ → Bool → Side) (x j key : ℕ) → IsRing (members ready) attempt_of sides → key < 2 ^ 128 →
+pub ring_kept : (ready : ℕ → Bool) (attempt_of : ℕ → ℕ) (sides : ℕ → Bool → Side) (x j key : ℕ) → IsRing (members ready) attempt_of sides →
+    key < 2 ^ 128 →
     members ready x → KeepsFor (members ready) (reach_of x (sides x)) key j → IsClosest (members ready) key x
 ring_kept ready attempt_of sides x j key ring hk px h =
     gap_closest (members ready) x j key (reach_of x (sides x)) ring.in_ring hk px h.absent (ring-ended (members ready) attempt_of sides x (is_member ready) ring px) h.gap
