@@ -11,3 +11,4 @@ pub mod Gates
 pub mod RingSteps
 pub mod Rows
 pub mod Nearest
+pub mod Hops

@@ -63,22 +63,30 @@ fn texts(rt: HostRuntime) {
 }
 
 #[test]
-fn lists_have_their_limits(rt: HostRuntime) -> Result<(), Fail> {
+fn ids_are_at_most_17(rt: HostRuntime) -> Result<(), Fail> {
     let mut ids = Ids::with_room(rt.alloc())?;
-    for i in 0..17u128 {
-        assert!(rt; ids.push(Id(i)));
+    for i in 0..17u8 {
+        assert!(rt; ids.push(at(i)));
     }
-    assert!(rt; !ids.push(Id(17)));
+    assert!(rt; !ids.push(at(17)));
     let copy = ids.copy(rt.alloc())?;
     assert_eq!(rt; copy.as_slice().len(), 17);
+    Ok(())
+}
 
+#[test]
+fn files_keep_to_their_room(rt: HostRuntime) -> Result<(), Fail> {
     let mut files = FileIds::with_room(rt.alloc(), 1)?;
     assert!(rt; files.push(FileId([1; 20])));
     assert!(rt; !files.push(FileId([2; 20])));
     let mut copy = files.copy(rt.alloc())?;
     assert!(rt; !copy.push(FileId([2; 20])));
     assert_eq!(rt; copy.as_slice(), &[FileId([1; 20])][..]);
+    Ok(())
+}
 
+#[test]
+fn bytes_are_at_most_4096(rt: HostRuntime) -> Result<(), Fail> {
     let bytes = Bytes::copy_of(rt.alloc(), &[7; 4096])
         .ok()
         .expect(&rt, "4,096 bytes fit");
