@@ -4,3 +4,5 @@ mod Pieces
 mod Growth
 mod Outcomes
 mod Limits
+pub mod LoneScenarios
+pub mod Sizes

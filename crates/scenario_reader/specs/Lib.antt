@@ -9,3 +9,4 @@ pub mod Checks
 pub mod Effects
 pub mod Grammar
 pub mod Outcome
+pub mod Lone
