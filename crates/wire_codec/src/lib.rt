@@ -1,0 +1,13 @@
+//! Messages as frames of bytes, and frames as messages.
+#![tactic(auto)]
+
+mod check;
+mod fault;
+mod field;
+mod header;
+mod kind;
+mod message;
+mod tagged;
+mod view;
+
+pub use fault::FrameFault;
