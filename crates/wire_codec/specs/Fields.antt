@@ -1,5 +1,5 @@
 -- The forms of a field of a frame: how each is spelled, and what it can hold.
-use Rattle.std.specs.Prelude.{◌≡◌, ℕ, ◌<◌, ◌≤◌, ◌^◌, List, [], ◌∷◌, ◌++◌, length}
+use Rattle.std.specs.Prelude.{◌≡◌, ℕ, ◌<◌, ◌≤◌, ◌^◌, List, [], ◌∷◌, ◌++◌, length, slice_index}
 use Rattle.std.specs.List.{flat_map, AllByRecursion}
 use Rattle.std.specs.Int.{w16, w32, w64, w128, to_be_bytes}
 
@@ -27,11 +27,11 @@ spelled (Copies copies) = copies ∷ []
 spelled (Bytes bytes) = to_be_bytes w16 (length bytes) ++ bytes
 spelled (Ids ids) = length ids ∷ flat_map (to_be_bytes w128) ids
 spelled (Files files) = to_be_bytes w16 (length files) ++ flat_map (λ file. file) files
-spelled (Tombs tombs) = to_be_bytes w16 (length tombs) ++ flat_map (λ file. file) tombs
+spelled (Tombs tombs) = to_be_bytes w16 (length tombs) ++ flat_map (λ tomb. tomb) tombs
 spelled (Tag tag) = tag ∷ []
 
 abbrev pub AreBytes : List ℕ → Type 0
-AreBytes bytes = AllByRecursion (λ byte. byte < 256) bytes
+AreBytes bytes = (i : ℕ) → slice_index bytes i < 256
 
 -- 20 bytes
 abbrev pub IsFile : List ℕ → Type 0

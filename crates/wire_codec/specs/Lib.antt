@@ -4,3 +4,5 @@ pub mod Spelling
 pub mod Layouts
 pub mod Reading
 pub mod Views
+pub mod Sizes
+pub mod Writing

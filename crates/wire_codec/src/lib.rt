@@ -7,6 +7,9 @@ mod field;
 mod header;
 mod kind;
 mod message;
+mod put;
+mod put_message;
+mod size;
 mod tagged;
 mod view;
 
