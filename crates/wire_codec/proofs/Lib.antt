@@ -1,3 +1,4 @@
 pub mod Whole
 pub mod Lists
+pub mod Sized
 pub mod Written

@@ -1,12 +1,15 @@
 //! The version and the kind of a frame.
 
 ghost use Rattle.std.specs.Prelude.{◌≡◌, ◌≤◌, length, IfOk};
+ghost use Rattle.wire_msg.specs.Words.{plain};
 ghost use Rattle.wire_codec.specs.declared.kind.Version.TheVariants.{One, Two};
-ghost use Rattle.wire_codec.specs.Kinds.{number_of, version_of};
+ghost use Rattle.wire_codec.specs.Kinds.{number_of, version_of, kind_of, version_of_reply, version_of_tombs};
 ghost use Rattle.wire_codec.specs.Spelling.{version_number};
 ghost use Rattle.wire_codec.specs.Reading.{Reads, numbered, version_from, kind_from};
 
 use crate::fault::FrameFault;
+use ring_math::FileIds;
+use wire_msg::{Message, Reply};
 
 /// Which of the two versions spells a frame.
 #[derive(Clone, Copy, Debug, PartialEq, Eq)]
@@ -50,6 +53,27 @@ impl Version {
             1 => Ok(Version::One),
             2 => Ok(Version::Two),
             found => Err(FrameFault::Version { found }),
+        }
+    }
+
+    /// The version of a reply to a lookup, an insert or a fetch.
+    fn of_reply(reply: &Reply) -> Version
+        ensures { result ≡ version_of_reply reply.now }
+    {
+        match reply {
+            Reply::Gone { .. } | Reply::Reclaimed { .. } => Version::Two,
+            _ => Version::One,
+        }
+    }
+
+    /// The version of a Grant.
+    fn of_tombs(tombs: &FileIds) -> Version
+        ensures { result ≡ version_of_tombs tombs.now.files }
+    {
+        if tombs.as_slice().is_empty() {
+            Version::One
+        } else {
+            Version::Two
         }
     }
 
@@ -158,6 +182,36 @@ impl Kind {
             Kind::ReplicaAck => 20,
             Kind::Reclaim => 21,
             Kind::ReclaimReply => 22,
+        }
+    }
+
+    /// The kind of the frame of a message.
+    pub(crate) fn of_message(message: &Message) -> Kind
+        ensures { result ≡ kind_of (plain message.now) }
+    {
+        match message {
+            Message::Lookup { .. } => Kind::Lookup,
+            Message::LookupReply { reply, .. } => Kind::LookupReply(Version::of_reply(reply)),
+            Message::Insert { .. } => Kind::Insert,
+            Message::InsertReply { reply, .. } => Kind::InsertReply(Version::of_reply(reply)),
+            Message::Fetch { .. } => Kind::Fetch,
+            Message::FetchReply { reply, .. } => Kind::FetchReply(Version::of_reply(reply)),
+            Message::JoinRequest { .. } => Kind::JoinRequest,
+            Message::JoinReply { .. } => Kind::JoinReply,
+            Message::JoinRefuse { .. } => Kind::JoinRefuse,
+            Message::Probe { .. } => Kind::Probe,
+            Message::ProbeReply { .. } => Kind::ProbeReply,
+            Message::LeaseRequest { .. } => Kind::LeaseRequest,
+            Message::Grant { tombs, .. } => Kind::Grant(Version::of_tombs(tombs)),
+            Message::Deny { .. } => Kind::Deny,
+            Message::Handover { .. } => Kind::Handover,
+            Message::Release { .. } => Kind::Release,
+            Message::Confirm { .. } => Kind::Confirm,
+            Message::Announce => Kind::Announce,
+            Message::Replicate { .. } => Kind::Replicate,
+            Message::ReplicaAck { .. } => Kind::ReplicaAck,
+            Message::Reclaim { .. } => Kind::Reclaim,
+            Message::ReclaimReply { .. } => Kind::ReclaimReply,
         }
     }
 }

@@ -2,6 +2,7 @@
 #![tactic(auto)]
 
 mod check;
+mod encoder;
 mod fault;
 mod field;
 mod header;
@@ -13,4 +14,5 @@ mod size;
 mod tagged;
 mod view;
 
+pub use encoder::encode;
 pub use fault::FrameFault;
