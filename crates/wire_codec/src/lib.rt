@@ -8,6 +8,7 @@ mod field;
 mod header;
 mod kind;
 mod message;
+mod owned;
 mod put;
 mod put_message;
 mod size;
