@@ -2,3 +2,4 @@ pub mod Whole
 pub mod Lists
 pub mod Sized
 pub mod Written
+pub mod Numbers

@@ -7,6 +7,7 @@ mod fault;
 mod field;
 mod header;
 mod kind;
+mod laws;
 mod message;
 mod owned;
 mod put;
@@ -17,3 +18,4 @@ mod view;
 
 pub use encoder::encode;
 pub use fault::FrameFault;
+pub use laws::{bytes_spell_one_envelope, no_spelling_begins_another, spelling_is_read};
