@@ -5,11 +5,11 @@ use Rattle.std.specs.Int.{w16, w128, to_be_bytes}
 use Rattle.wire_codec.specs.Fields.{Field, IsFile, spelled, Fits}
 use Rattle.wire_codec.specs.Sizes.{size_of, size_of_all}
 
-length-ids : (ids : List ℕ) → length (flat_map (to_be_bytes w128) ids) ≡ 16 * length ids
+pub length-ids : (ids : List ℕ) → length (flat_map (to_be_bytes w128) ids) ≡ 16 * length ids
 length-ids [] = refl
 length-ids (id ∷ ids) = omega (arith, length-ids ids, length-append (to_be_bytes w128 id) (flat_map (to_be_bytes w128) ids))
 
-length-files : (files : List (List ℕ)) → AllByRecursion IsFile files → length (flat_map (λ file. file) files) ≡ 20 * length files
+pub length-files : (files : List (List ℕ)) → AllByRecursion IsFile files → length (flat_map (λ file. file) files) ≡ 20 * length files
 length-files [] fits = refl
 length-files (file ∷ files) fits = omega (arith, fits.0.0, length-files files fits.1, length-append file (flat_map (λ file. file) files))
 

@@ -1,4 +1,5 @@
-use Rattle.wire_codec.proofs.Numbers
+use Rattle.wire_codec.proofs.Places
+use Rattle.wire_codec.proofs.Chunks
 use Rattle.wire_codec.proofs.laws.spelling_is_read.Goals as goal
 
 pub returns : goal.returns
