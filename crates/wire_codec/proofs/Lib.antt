@@ -5,3 +5,6 @@ pub mod Written
 pub mod Numbers
 pub mod Places
 pub mod Chunks
+pub mod Matching
+pub mod FieldsAgain
+pub mod FieldsTaken

@@ -70,6 +70,12 @@ back_8 (b ∷ []) len fits =
     ap (λ (x : ℕ). x ∷ []) same
 back_8 (b ∷ c ∷ more) len fits = absurd (omega arith)
 
+-- a number of one byte is spelled by itself
+pub byte_spelled : (n : ℕ) → n < 256 → to_be_bytes w8 n ≡ n ∷ []
+byte_spelled n fits =
+    let same : n % 256 ≡ n = omega arith in
+    ap (λ (x : ℕ). x ∷ []) same
+
 pub wide8 : IsWide w8 (2 ^ 8)
 wide8 = record {
   len = λ n. refl;
