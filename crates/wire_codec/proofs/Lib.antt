@@ -8,3 +8,4 @@ pub mod Chunks
 pub mod Matching
 pub mod FieldsAgain
 pub mod FieldsTaken
+pub mod Messages
