@@ -9,3 +9,4 @@ pub mod Matching
 pub mod FieldsAgain
 pub mod FieldsTaken
 pub mod Messages
+pub mod Frames
