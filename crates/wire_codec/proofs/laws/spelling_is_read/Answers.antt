@@ -1,5 +1,5 @@
-use Rattle.wire_codec.proofs.Frames
+use Rattle.wire_codec.proofs.Frames.{reading_again}
 use Rattle.wire_codec.proofs.laws.spelling_is_read.Goals as goal
 
 pub returns : goal.returns
-returns c = ?
+returns c = reading_again
