@@ -183,13 +183,13 @@ reading_taken bytes c fits e =
     let stated = (number_takes w32 (2 ^ 32) wide32 bytes 2 (length bytes - 6) fits h.stated).0 in
     let size : length bytes - 6 ≡ length (flat_map spelled fields) = sym (length-drop 6 bytes) ∙ ap length rest in
     let tail : drop 2 bytes ≡ to_be_bytes w32 (length (flat_map spelled fields)) ++ flat_map spelled fields =
-      stated.parts ∙ ap (λ (r : List ℕ). to_be_bytes w32 (length bytes - 6) ++ r) rest ∙ ap (λ (n : ℕ). to_be_bytes w32 n ++ flat_map spelled fields) size
+    stated.parts ∙ ap (λ (r : List ℕ). to_be_bytes w32 (length bytes - 6) ++ r) rest ∙ ap (λ (n : ℕ). to_be_bytes w32 n ++ flat_map spelled fields) size
     in
     let whole : bytes ≡ spelling_of made =
-      front_two bytes (omega (arith, h.long))
-      ∙ ap (λ (a : ℕ). a ∷ get_or bytes 1 0 ∷ drop 2 bytes) h.version
-      ∙ ap (λ (a : ℕ). version_number (version_of k) ∷ a ∷ drop 2 bytes) h.number
-      ∙ ap (λ (r : List ℕ). version_number (version_of k) ∷ number_of k ∷ r) tail
+    front_two bytes (omega (arith, h.long))
+    ∙ ap (λ (a : ℕ). a ∷ get_or bytes 1 0 ∷ drop 2 bytes) h.version
+    ∙ ap (λ (a : ℕ). version_number (version_of k) ∷ a ∷ drop 2 bytes) h.number
+    ∙ ap (λ (r : List ℕ). version_number (version_of k) ∷ number_of k ∷ r) tail
     in
     subst (IsFrameOf bytes) t.1 (record { bytes_are = whole; fits = found.fit })
 
@@ -215,3 +215,9 @@ prefix_free a b rest e f one two longer =
     let tails : to_be_bytes w32 (length y) ++ y ≡ to_be_bytes w32 (length x) ++ (x ++ rest) = ap (drop 2) whole in
     let same = length_told (length y) (length x) y (x ++ rest) (size_fits f two.fits) (size_fits e one.fits) tails in
     nil_from_length rest (omega (arith, ap length tails, same, length-append x rest))
+
+-- what is read as an envelope spells it
+pub spells_read : (bytes : List ℕ) (e : Envelope) → AreBytes bytes → reading bytes ≡ Ok (contents_of e) → Spells bytes e
+spells_read bytes e fits read =
+    let frame = reading_taken bytes (contents_of e) fits read in
+    record { bytes_are = frame.bytes_are; fits = frame.fits }

@@ -10,3 +10,4 @@ pub mod FieldsAgain
 pub mod FieldsTaken
 pub mod Messages
 pub mod Frames
+pub mod Refusals

@@ -117,6 +117,19 @@ reading bytes = do
   found ← fields_at bytes (Form.Id ▸ Form.Id ▸ Form.Number ▸ layout k) 6
   if found.1 == length bytes then Ok (record { kind = k; fields = found.0 }) else Err (fault.Range found.1)
 
+abbrev pub refusal_in : Reading Contents → Option FrameFault
+refusal_in (Ok c) = None
+refusal_in (Err e) = Some e
+
+-- the first refusal that applies, of bytes that are no frame
+abbrev pub refusal : List ℕ → Option FrameFault
+refusal bytes = refusal_in (reading bytes)
+
+-- the fault is the refusal that is due, or memory was refused where none is due
+abbrev pub IsDue : FrameFault → Option FrameFault → Type 0
+IsDue fault.OutOfMemory due = due ≡ None
+IsDue e due = due ≡ Some e
+
 -- The function read what the definition reads, or refused as it does.
 abbrev pub Reads : {X Y : Type 0} → (X → Y) → Result X FrameFault → Reading Y → Type 0
 Reads view (Ok x) read = read ≡ Ok (view x)

@@ -1,7 +1,7 @@
 //! The check of a whole frame, which takes no memory.
 
-ghost use Rattle.std.specs.Prelude.{◌≡◌};
-ghost use Rattle.wire_codec.specs.Spelling.{contents_of};
+ghost use Rattle.std.specs.Prelude.{◌≡◌, IfOk};
+ghost use Rattle.wire_codec.specs.Spelling.{contents_of, Spells};
 ghost use Rattle.wire_codec.specs.Views.{seen};
 ghost use Rattle.wire_codec.specs.Reading.{Reads, reading};
 
@@ -13,7 +13,8 @@ use crate::view::EnvelopeView;
 
 /// The envelope that the bytes spell, with its lists still in the bytes, or the first refusal that applies.
 pub(crate) fn check(bytes: &[u8]) -> Result<EnvelopeView<'_>, FrameFault>
-    ensures { Reads (λ view. contents_of (seen view)) result (reading bytes.now) }
+    ensures value { Reads (λ view. contents_of (seen view)) result (reading bytes.now) }
+    ensures spells { IfOk result (λ view. Spells bytes.now (seen view)) }
 {
     let kind = header(bytes)?;
     let (sender, place) = id_at(bytes, 6)?;

@@ -1,5 +1,10 @@
 //! Why bytes are no frame.
 
+ghost use Rattle.std.specs.Prelude.{◌≡◌};
+ghost use Rattle.wire_codec.specs.declared.fault.FrameFault.TheVariants as fault;
+
+use ring_math::OutOfMemory;
+
 /// The first refusal of the bytes that applies, or want of memory on a whole frame.
 #[derive(Clone, Copy, Debug, PartialEq, Eq)]
 pub enum FrameFault {
@@ -15,4 +20,12 @@ pub enum FrameFault {
     Range { place: usize },
     /// Memory was refused.
     OutOfMemory,
+}
+
+impl From<OutOfMemory> for FrameFault {
+    ghost from_gives = { λ _ made. made ≡ fault.OutOfMemory };
+
+    fn from(_error: OutOfMemory) -> FrameFault {
+        FrameFault::OutOfMemory
+    }
 }

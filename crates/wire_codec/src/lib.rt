@@ -2,6 +2,7 @@
 #![tactic(auto)]
 
 mod check;
+mod decoder;
 mod encoder;
 mod fault;
 mod field;
@@ -16,6 +17,7 @@ mod size;
 mod tagged;
 mod view;
 
+pub use decoder::{decode, is_frame};
 pub use encoder::encode;
 pub use fault::FrameFault;
 pub use laws::{bytes_spell_one_envelope, no_spelling_begins_another, spelling_is_read};

@@ -2,15 +2,16 @@
 
 ghost use Rattle.std.specs.Prelude.{◌≡◌, ◌≤◌, length, IfOk};
 ghost use Rattle.std.specs.List.{AllByRecursion};
-ghost use Rattle.wire_msg.specs.Words.{plain};
+ghost use Rattle.wire_msg.specs.Words.{plain, plain_envelope};
 ghost use Rattle.wire_codec.specs.Fields.{Fits};
 ghost use Rattle.wire_codec.specs.Kinds.{fields_of, fields_of_reply};
-ghost use Rattle.wire_codec.specs.Views.{ids_in, seen_reply, seen_message};
+ghost use Rattle.wire_codec.specs.Spelling.{contents_of};
+ghost use Rattle.wire_codec.specs.Views.{ids_in, seen_reply, seen_message, seen};
 
-use crate::view::{MessageView, ReplyView};
+use crate::view::{EnvelopeView, MessageView, ReplyView};
 use ring_math::{Bytes, FileId, FileIds, Id, Ids, OutOfMemory};
 use std::alloc::Global;
-use wire_msg::{Message, Reply};
+use wire_msg::{Envelope, Message, Reply};
 
 pub(crate) fn owned_bytes(alloc: Global, bytes: &[u8]) -> Result<Bytes, OutOfMemory>
     requires { length bytes.now ≤ 4096 }
@@ -221,5 +222,21 @@ pub(crate) fn owned_message(
             number: *number,
             reply: owned_reply(alloc, reply)?,
         },
+    })
+}
+
+pub(crate) fn owned_envelope(
+    alloc: Global,
+    view: &EnvelopeView<'_>,
+) -> Result<Envelope, OutOfMemory>
+    requires { AllByRecursion Fits (contents_of (seen view.now)).fields }
+    ensures { IfOk result (λ owned. plain_envelope owned ≡ seen view.now) }
+{
+    let message = owned_message(alloc, &view.message)?;
+    Ok(Envelope {
+        sender: view.sender,
+        receiver: view.receiver,
+        stamp: view.stamp,
+        message,
     })
 }
