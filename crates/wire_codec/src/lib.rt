@@ -21,3 +21,6 @@ pub use decoder::{decode, is_frame};
 pub use encoder::encode;
 pub use fault::FrameFault;
 pub use laws::{bytes_spell_one_envelope, no_spelling_begins_another, spelling_is_read};
+
+#[cfg(test)]
+mod tests;
