@@ -1,0 +1,12 @@
+//! The store of a node: for each file that it knows, the bytes or a tombstone.
+//!
+//! A file is immutable, and a reclaimed one stays a tombstone for good. At most 4,096 entries stand.
+#![tactic(auto)]
+
+mod answer;
+mod order;
+mod row;
+mod store;
+
+pub use answer::{Bury, Put};
+pub use store::FileStore;
