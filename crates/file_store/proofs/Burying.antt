@@ -113,7 +113,7 @@ length-buried_all hs (t ∷ ts) r l =
     let rest = length-buried_all (buried hs t) ts (rising-buried hs t r) one.1 in
     (omega arith, omega arith)
 
-buried_all-append : (hs : List Held) (xs ys : List (List ℕ)) → buried_all hs (xs ++ ys) ≡ buried_all (buried_all hs xs) ys
+pub buried_all-append : (hs : List Held) (xs ys : List (List ℕ)) → buried_all hs (xs ++ ys) ≡ buried_all (buried_all hs xs) ys
 buried_all-append hs [] ys = refl
 buried_all-append hs (x ∷ xs) ys = buried_all-append (buried hs x) xs ys
 
@@ -160,3 +160,7 @@ pub laid-within : (hs : List Held) (t : List ℕ) (room : ℕ) → length (burie
 laid-within hs t room l e =
     let laid = laid_in_room (slot_of hs t) (has_room hs) e in
     omega (arith, length-buried_new hs t (ap is_entry laid.0) laid.1)
+
+pub rising-buried_all : (hs : List Held) (ts : List (List ℕ)) → is_rising hs ≡ true → is_rising (buried_all hs ts) ≡ true
+rising-buried_all hs [] r = r
+rising-buried_all hs (t ∷ ts) r = rising-buried_all (buried hs t) ts (rising-buried hs t r)

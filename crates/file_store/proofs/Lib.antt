@@ -1,3 +1,5 @@
 pub mod Dictionary
 pub mod Slots
 pub mod Burying
+pub mod Named
+pub mod Reached

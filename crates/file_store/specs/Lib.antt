@@ -1,3 +1,4 @@
 pub mod Store
 pub mod Places
 pub mod Answers
+pub mod Burial

@@ -3,10 +3,12 @@
 //! A file is immutable, and a reclaimed one stays a tombstone for good. At most 4,096 entries stand.
 #![tactic(auto)]
 
+mod after;
 mod answer;
 mod order;
 mod row;
 mod store;
 
+pub use after::Buried;
 pub use answer::{Bury, Put};
 pub use store::FileStore;

@@ -1,6 +1,6 @@
 //! The store.
 
-ghost use Rattle.std.specs.Prelude.{◌≡◌, ◌≤◌, ◌<◌, ◌+◌, [], length, min, true, false, IsTrue, IfOk, IfErr, OnOk, OnErr, option_copied, count_by, is_some, map, slice_index_or, ◌||◌};
+ghost use Rattle.std.specs.Prelude.{◌≡◌, ◌≤◌, ◌<◌, ◌+◌, [], length, min, true, false, IsTrue, IfOk, IfErr, OnOk, OnErr, option_copied, option_map, count_by, is_some, map, slice_index_or, ◌||◌};
 ghost use Rattle.std.specs.List.{list_all};
 ghost use Rattle.ring_math.specs.Files.{slot_of, with_slot, has_entry, has_tomb, has_room, buried, buried_all, has_lists};
 ghost use Rattle.file_store.specs.Answers.{bytes_in, put_of, after_put, bury_of, after_bury, can_set, lays_any};
@@ -14,7 +14,7 @@ use std::alloc::Global;
 use std::marker::Model;
 
 /// The most entries that stand.
-const LIMIT: usize = 4096;
+pub(crate) const LIMIT: usize = 4096;
 
 /// Files and tombstones, by rising file identifier.
 #[derive(Drop)]
@@ -96,11 +96,11 @@ impl FileStore {
     }
 
     /// What stands for the file: nothing, a tombstone (None within) or bytes.
-    pub fn slot(&self, file: &FileId) -> Option<&Option<Bytes>>
-        ensures { option_copied result ≡ slot_of self.now.files file.now }
+    pub fn slot(&self, file: &FileId) -> Option<Option<&Bytes>>
+        ensures { option_map option_copied result ≡ slot_of self.now.files file.now }
     {
         match self.search(file) {
-            Ok(place) => Some(&self.row.at(place).slot),
+            Ok(place) => Some(self.row.at(place).slot.as_ref()),
             Err(_) => None,
         }
     }
