@@ -1,11 +1,11 @@
 -- Where a file stands, and what a change at that place makes of the list.
-use Rattle.std.proofs.Common.{◌≡◌, IsTrue, ◌||◌, ◌<◌, ◌≤◌, ℕ, ◌+◌, Bool, true, false, ◌&&◌, if◌then◌else◌, List, [], ◌∷◌, ◌++◌, length, get_or, drop, take, refl, sym, ◌∙◌, arith, Option, Some, None, ap, suc, zero}
+use Rattle.std.proofs.Common.{◌≡◌, IsTrue, ◌||◌, ◌<◌, ◌≤◌, ℕ, ◌+◌, Bool, true, false, not, ◌&&◌, if◌then◌else◌, List, [], ◌∷◌, ◌++◌, length, get_or, drop, take, refl, sym, ◌∙◌, arith, Option, Some, None, ap, suc, zero}
 use Rattle.std.proofs.Math.ListN.{set}
-use Rattle.std.specs.List.{insert}
+use Rattle.std.specs.List.{insert, list_all}
 use Rattle.std.proofs.lemmas.Bool.Decides.{nat_tests}
 use Rattle.ring_math.specs.declared.file.Held.{Held}
 use Rattle.ring_math.specs.Bytewise.{same_bytes, is_before}
-use Rattle.ring_math.specs.Files.{Slot, slot_of, with_slot, has_entry, has_room, is_entry}
+use Rattle.ring_math.specs.Files.{Slot, slot_of, with_slot, has_entry, has_tomb, has_room, is_entry, is_tomb}
 use Rattle.file_store.specs.Store.{Store}
 use Rattle.file_store.specs.Answers.{can_set}
 use Rattle.file_store.specs.Places.{place_of, is_rising, is_before_first, is_here, StandsAt, GoesInAt}
@@ -247,3 +247,21 @@ length-with_least [] f s = omega arith
 length-with_least (h ∷ hs) f s =
     let P : List Held → Type 0 = λ zs. length (h ∷ hs) ≤ length zs in
     if_both P (same_bytes h.file f) _ _ (λ _. omega arith) (λ _. if_both P (is_before f h.file) _ _ (λ _. omega arith) (λ _. omega (arith, length-with_least hs f s)))
+
+-- a test that holds alike at each file holds alike of a list
+pub list_all-same : (p q : List ℕ → Bool) → ((f : List ℕ) → p f ≡ q f) → (fs : List (List ℕ)) → list_all p fs ≡ list_all q fs
+list_all-same p q e [] = refl
+list_all-same p q e (f ∷ fs) = rw (e f, list_all-same p q e fs) refl
+
+-- what has an entry, and what is a tombstone, once bytes stand for a file
+pub entries-with : (hs : List Held) (t : List ℕ) (b : List ℕ) (fs : List (List ℕ)) → list_all (λ f. same_bytes t f || has_entry hs f) fs ≡ list_all (has_entry (with_slot hs t (Some b))) fs
+entries-with hs t b fs = list_all-same _ _ (λ f. sym (ap is_entry (slot-with hs t (Some b) f) ∙ either (same_bytes t f) (slot_of hs f))) fs where
+  either : (a : Bool) (o : Option Slot) → is_entry (if a then Some (Some b) else o) ≡ (a || is_entry o)
+  either true o = refl
+  either false o = refl
+
+pub tombs-with : (hs : List Held) (t : List ℕ) (b : List ℕ) (fs : List (List ℕ)) → list_all (λ f. not (same_bytes t f) && has_tomb hs f) fs ≡ list_all (has_tomb (with_slot hs t (Some b))) fs
+tombs-with hs t b fs = list_all-same _ _ (λ f. sym (ap is_tomb (slot-with hs t (Some b) f) ∙ either (same_bytes t f) (slot_of hs f))) fs where
+  either : (a : Bool) (o : Option Slot) → is_tomb (if a then Some (Some b) else o) ≡ (not a && is_tomb o)
+  either true o = refl
+  either false o = refl

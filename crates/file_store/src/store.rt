@@ -1,7 +1,8 @@
 //! The store.
 
-ghost use Rattle.std.specs.Prelude.{◌≡◌, ◌≤◌, ◌<◌, ◌+◌, [], length, min, true, false, IsTrue, IfOk, IfErr, OnOk, OnErr, option_copied, option_map, count_by, is_some, map, slice_index_or, ◌||◌};
+ghost use Rattle.std.specs.Prelude.{◌≡◌, ◌≤◌, ◌<◌, ◌+◌, ◌&&◌, ◌||◌, not, ℕ, List, [], length, min, true, Some, IsTrue, IfOk, IfErr, OnOk, OnErr, option_copied, option_map, count_by, is_some, map, slice_index_or};
 ghost use Rattle.std.specs.List.{list_all};
+ghost use Rattle.ring_math.specs.Bytewise.{same_bytes};
 ghost use Rattle.ring_math.specs.Files.{slot_of, with_slot, has_entry, has_tomb, has_room, buried, buried_all, has_lists};
 ghost use Rattle.file_store.specs.Answers.{bytes_in, put_of, after_put, bury_of, after_bury, can_set, lays_any};
 ghost use Rattle.file_store.specs.Places.{place_of, is_rising, StandsAt, GoesInAt};
@@ -301,6 +302,25 @@ impl FileStore {
         ensures { result ≡ has_lists self.now.files manifest.now tombs.now }
     {
         self.have_entries(manifest) && self.are_gone(tombs)
+    }
+
+    /// The same once bytes are put for this file.
+    pub fn has_lists_with(&self, file: &FileId, manifest: &[FileId], tombs: &[FileId]) -> bool
+        ensures { (bytes : List ℕ) → result ≡ has_lists (with_slot self.now.files file.now (Some bytes)) manifest.now tombs.now }
+    {
+        self.have_entries_with(file, manifest) && self.are_gone_with(file, tombs)
+    }
+
+    fn have_entries_with(&self, file: &FileId, files: &[FileId]) -> bool
+        ensures { result ≡ list_all (λ f. same_bytes file.now f || has_entry self.now.files f) files.now }
+    {
+        files.iter().all(|other| is_same(file, other) || self.slot(other).is_some())
+    }
+
+    fn are_gone_with(&self, file: &FileId, files: &[FileId]) -> bool
+        ensures { result ≡ list_all (λ f. not (same_bytes file.now f) && has_tomb self.now.files f) files.now }
+    {
+        files.iter().all(|other| !is_same(file, other) && self.is_gone(other))
     }
 
     fn have_entries(&self, files: &[FileId]) -> bool
