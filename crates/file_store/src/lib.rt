@@ -12,3 +12,6 @@ mod store;
 pub use after::Buried;
 pub use answer::{Bury, Put};
 pub use store::FileStore;
+
+#[cfg(test)]
+mod tests;
