@@ -6,3 +6,6 @@ mod taking;
 
 pub use gap::{in_gap, tombs_in_gap};
 pub use taking::{Pledge, Taking};
+
+#[cfg(test)]
+mod tests;
