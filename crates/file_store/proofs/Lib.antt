@@ -3,3 +3,4 @@ pub mod Slots
 pub mod Burying
 pub mod Named
 pub mod Reached
+pub mod Spreading

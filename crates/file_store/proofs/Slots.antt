@@ -7,13 +7,10 @@ use Rattle.ring_math.specs.declared.file.Held.{Held}
 use Rattle.ring_math.specs.Bytewise.{same_bytes, is_before}
 use Rattle.ring_math.specs.Files.{Slot, slot_of, with_slot, has_entry, has_tomb, has_room, is_entry, is_tomb}
 use Rattle.file_store.specs.Store.{Store}
+use Rattle.file_store.specs.Spread.{blank}
 use Rattle.file_store.specs.Answers.{can_set}
 use Rattle.file_store.specs.Places.{place_of, is_rising, is_before_first, is_here, StandsAt, GoesInAt}
 use Rattle.file_store.proofs.Dictionary.{same-eq, same-refl, after-not_same, before-else, before-not_same, before-asym, before-trans}
-
--- no entry at all
-abbrev pub blank : Held
-blank = record { file = []; slot = None }
 
 -- a test, and what holds in each case
 pub by_test : {P : Type 0} (b : Bool) → (b ≡ true → P) → (b ≡ false → P) → P
@@ -205,8 +202,17 @@ slot-goes_in hs f p g r = sym (slot-none hs f r g.absent)
 pub record Placed (old : List Held) (f : List ℕ) (s : Slot) (new : List Held) : Type 0 where
   pub same : new ≡ with_slot old f s
 
-pub placed-set : (hs : List Held) (f : List ℕ) (s : Slot) (p : ℕ) (new : List Held) → StandsAt hs f p → new ≡ set hs p (record { file = f; slot = s }) → Placed hs f s new
-placed-set hs f s p new at n = record { same = n ∙ ap (λ q. set hs q (record { file = f; slot = s })) at.place ∙ sym (with-set hs f s at.here) }
+-- the file that stands at a place is the one sought
+file-stands : (hs : List Held) (f : List ℕ) (p : ℕ) (d : Held) → StandsAt hs f p → (get_or hs p d).file ≡ f
+file-stands hs f p d at =
+    let here = here-at hs f d (let e = at.place in let w = at.within in omega arith) in
+    same-eq (get_or hs p d).file f (ap (λ q. same_bytes (get_or hs q d).file f) at.place ∙ sym here ∙ at.here)
+
+pub placed-set : (hs : List Held) (f : List ℕ) (s : Slot) (p : ℕ) (new : List Held) → StandsAt hs f p → new ≡ set hs p (record (get_or hs p blank) { slot = s }) → Placed hs f s new
+placed-set hs f s p new at n = record {
+  same = n ∙ ap (λ g. set hs p (record { file = g; slot = s })) (file-stands hs f p blank at)
+    ∙ ap (λ q. set hs q (record { file = f; slot = s })) at.place ∙ sym (with-set hs f s at.here);
+}
 
 pub placed-insert : (hs : List Held) (f : List ℕ) (s : Slot) (p : ℕ) (new : List Held) → GoesInAt hs f p → new ≡ insert hs p (record { file = f; slot = s }) → Placed hs f s new
 placed-insert hs f s p new at n = record { same = n ∙ ap (λ q. insert hs q (record { file = f; slot = s })) at.place ∙ sym (with-insert hs f s at.absent) }

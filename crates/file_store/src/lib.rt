@@ -6,6 +6,7 @@
 mod after;
 mod answer;
 mod order;
+mod place;
 mod row;
 mod store;
 

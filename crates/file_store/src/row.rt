@@ -1,10 +1,15 @@
 //! Entries in one order, with room that can be taken beforehand.
+//!
+//! An entry stays where it came in, and places of four bytes give the order: so what moves when an entry comes in
+//! between is short. A place keeps the head of its file, so a search seldom looks at the entries themselves.
 
-ghost use Rattle.std.specs.Prelude.{◌≡◌, ◌<◌, ◌≤◌, ◌+◌, [], length, IfOk, OnOk, OnErr, slice_index_or, slice_set};
+ghost use Rattle.std.specs.Prelude.{◌≡◌, ◌<◌, ◌≤◌, ◌+◌, ◌++◌, ◌∷◌, [], length, vec_len, vec_capacity, IfOk, OnOk, OnErr, slice_index_or, slice_set};
 ghost use Rattle.std.specs.List.{insert};
 ghost use Rattle.ring_math.specs.Bytewise.{is_before};
+ghost use Rattle.file_store.specs.Spread.{blank};
 
 use crate::order::comes_before;
+use crate::place::{Place, head_of};
 use ring_math::{Bytes, FileId, Held, OutOfMemory};
 use std::alloc::Global;
 use std::marker::Model;
@@ -12,18 +17,22 @@ use std::marker::Model;
 /// At most 4,096 entries.
 #[derive(Drop)]
 pub(crate) struct Row {
+    /// In the order in which they came in.
     entries: Vec<Held>,
+    /// In the order of the row.
+    places: Vec<Place>,
 }
 
 impl Model for Row {
-    ghost use Rattle.std.specs.Prelude.{length, ◌≤◌, vec_capacity};
+    ghost use Rattle.std.specs.Prelude.{min, vec_capacity};
     ghost use Rattle.file_store.specs.Store.{Store};
+    ghost use Rattle.file_store.specs.Spread.{spread, Kept};
 
     ghost Value = { Store };
 
-    ghost view = { λ a. record { files = a.entries.items; room = vec_capacity a.entries } };
+    ghost view = { λ a. record { files = spread a.entries.items a.places.items; room = min (vec_capacity a.entries) (vec_capacity a.places) } };
 
-    ghost invariant = { λ a. length a.entries.items ≤ 4096 };
+    ghost invariant = { λ a. Kept a.entries.items a.places.items };
 }
 
 impl Row {
@@ -32,6 +41,7 @@ impl Row {
     {
         Row {
             entries: Vec::new(alloc),
+            places: Vec::new(alloc),
         }
     }
 
@@ -40,14 +50,15 @@ impl Row {
         ensures limit { length self.now.files ≤ 4096 }
         ensures within { length self.now.files ≤ self.now.room }
     {
-        self.entries.len()
+        let _entries = self.entries.len();
+        self.places.len()
     }
 
     pub(crate) fn at(&self, place: usize) -> &Held
         requires { place < length self.now.files }
         ensures { result.now ≡ slice_index_or self.now.files place result.now }
     {
-        &self.entries[place]
+        &self.entries[self.places[place].entry as usize]
     }
 
     /// Whether the entry's file comes before this one.
@@ -55,7 +66,12 @@ impl Row {
         requires { place < length self.now.files }
         ensures { (d : Held) → result ≡ is_before (slice_index_or self.now.files place d).file file.now }
     {
-        comes_before(&self.at(place).file, file)
+        let found = self.places[place];
+        let head = head_of(file);
+        if found.head != head {
+            return found.head < head;
+        }
+        comes_before(&self.entries[found.entry as usize].file, file)
     }
 
     /// Takes room for so many more entries. What stands stays.
@@ -66,6 +82,7 @@ impl Row {
         ensures room { self.old.room ≤ self.new.room }
     {
         self.entries.reserve(count)?;
+        self.places.reserve(count)?;
         Ok(())
     }
 
@@ -77,16 +94,20 @@ impl Row {
         ensures files { self.new.files ≡ insert self.old.files place held }
         ensures room { self.old.room ≤ self.new.room }
     {
-        let _ = self.entries.insert(place, held);
+        let entry = self.entries.len() as u16;
+        let head = head_of(&held.file);
+        add_entry(&mut self.entries, held);
+        add_place(&mut self.places, place, Place { head, entry });
     }
 
-    /// What stands at the place is now this.
-    pub(crate) fn replace(&mut self, place: usize, held: Held)
+    /// What stands for the file at this place is now this.
+    pub(crate) fn replace(&mut self, place: usize, slot: Option<Bytes>)
         requires { place < length self.old.files }
-        ensures files { self.new.files ≡ slice_set self.old.files place held }
+        ensures files { self.new.files ≡ slice_set self.old.files place (record (slice_index_or self.old.files place blank) { slot = slot }) }
         ensures room { self.new.room ≡ self.old.room }
     {
-        self.entries[place] = held;
+        let entry = self.places[place].entry;
+        change_slot(&mut self.entries, entry as usize, slot);
     }
 
     /// The same entries in memory of their own.
@@ -98,16 +119,36 @@ impl Row {
         for place in 0..self.len() {
             let held = self.at(place);
             let slot = copy_of(alloc, &held.slot)?;
-            copy.insert(
-                place,
-                Held {
-                    file: held.file,
-                    slot,
-                },
-            );
+            copy.insert(place, Held { file: held.file, slot });
         }
         Ok(copy)
     }
+}
+
+fn add_entry(entries: &mut Vec<Held>, held: Held)
+    requires { vec_len entries.old < vec_capacity entries.old }
+    ensures items { entries.new.items ≡ entries.old.items ++ held ∷ [] }
+    ensures room { vec_capacity entries.old ≤ vec_capacity entries.new }
+{
+    let _ = entries.push(held);
+}
+
+fn add_place(places: &mut Vec<Place>, at: usize, place: Place)
+    requires within { at ≤ vec_len places.old }
+    requires room { vec_len places.old < vec_capacity places.old }
+    ensures items { places.new.items ≡ insert places.old.items at place }
+    ensures room { vec_capacity places.old ≤ vec_capacity places.new }
+{
+    let _ = places.insert(at, place);
+}
+
+fn change_slot(entries: &mut Vec<Held>, entry: usize, slot: Option<Bytes>)
+    requires { entry < vec_len entries.old }
+    ensures items { entries.new.items ≡ slice_set entries.old.items entry (record (slice_index_or entries.old.items entry blank) { slot = slot }) }
+    ensures room { vec_capacity entries.new ≡ vec_capacity entries.old }
+{
+    let held = &mut entries[entry];
+    held.slot = slot;
 }
 
 /// The same bytes in memory of their own, or again a tombstone.

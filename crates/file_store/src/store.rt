@@ -124,7 +124,7 @@ impl FileStore {
         ensures room { self.old.room ≤ self.new.room }
     {
         match self.search(&file) {
-            Ok(place) => self.row.replace(place, Held { file, slot }),
+            Ok(place) => self.row.replace(place, slot),
             Err(place) => self.row.insert(place, Held { file, slot }),
         }
     }

@@ -1,5 +1,6 @@
 use Rattle.std.proofs.Common.{arith, sym, ◌∙◌}
-use Rattle.file_store.proofs.Slots.{place-within, beyond, within, blank}
+use Rattle.file_store.proofs.Slots.{place-within, beyond, within}
+use Rattle.file_store.specs.Spread.{blank}
 use Rattle.file_store.proofs.store.FileStore.place.Goals as goal
 
 pub loop-low-init : goal.loop-low-init
