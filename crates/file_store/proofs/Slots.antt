@@ -227,8 +227,8 @@ pub has_entry-goes_in : (hs : List Held) (f : List ℕ) (p : ℕ) → GoesInAt h
 has_entry-goes_in hs f p g r = ap is_entry (slot-none hs f r g.absent)
 
 -- a file that can be set and has no entry finds room
-pub room_left : (store : Store) (f : List ℕ) (p : ℕ) → GoesInAt store.files f p → is_rising store.files ≡ true → IsTrue (can_set store f) → (length store.files < 4096) × (length store.files < store.room)
-room_left store f p g r may = let none = has_entry-goes_in store.files f p g r in (grind (arith, nat_tests), grind (arith, nat_tests))
+pub room_left : (store : Store) (f : List ℕ) → None ≡ slot_of store.files f → IsTrue (can_set store f) → (length store.files < 4096) × (length store.files < store.room)
+room_left store f e may = let none : has_entry store.files f ≡ false = ap is_entry (sym e) in (grind (arith, nat_tests), grind (arith, nat_tests))
 
 -- the file has the slot that was set for it, and every other file what it had
 pub slot-with : (hs : List Held) (t : List ℕ) (s : Slot) (f : List ℕ) → slot_of (with_slot hs t s) f ≡ (if same_bytes t f then Some s else slot_of hs f)

@@ -1,10 +1,10 @@
 //! The store.
 
-ghost use Rattle.std.specs.Prelude.{◌≡◌, ◌≤◌, ◌<◌, ◌+◌, ◌&&◌, ◌||◌, not, ℕ, List, [], length, min, true, Some, IsTrue, IfOk, IfErr, OnOk, OnErr, option_copied, option_map, count_by, is_some, map, slice_index_or};
+ghost use Rattle.std.specs.Prelude.{◌≡◌, ◌≤◌, ◌<◌, ◌+◌, ◌&&◌, ◌||◌, not, ℕ, Bool, List, [], length, min, true, Some, None, IsTrue, IfOk, IfErr, OnOk, OnErr, option_copied, option_map, count_by, is_some, map, slice_index_or};
 ghost use Rattle.std.specs.List.{list_all};
 ghost use Rattle.ring_math.specs.Bytewise.{same_bytes};
 ghost use Rattle.ring_math.specs.Files.{slot_of, with_slot, has_entry, has_tomb, has_room, buried, buried_all, has_lists};
-ghost use Rattle.file_store.specs.Answers.{bytes_in, put_of, after_put, bury_of, after_bury, can_set, lays_any};
+ghost use Rattle.file_store.specs.Answers.{bytes_in, put_at, put_of, after_put, bury_of, after_bury, can_set, lays_any};
 ghost use Rattle.file_store.specs.Places.{place_of, is_rising, StandsAt, GoesInAt};
 
 use crate::answer::{Bury, Put};
@@ -84,6 +84,7 @@ impl FileStore {
     fn search(&self, file: &FileId) -> Result<usize, usize>
         ensures found { IfOk result (λ place. StandsAt self.now.files file.now place) }
         ensures absent { IfErr result (λ place. GoesInAt self.now.files file.now place) }
+        ensures none { OnErr result (None ≡ slot_of self.now.files file.now) }
     {
         let place = self.place(file);
         if place == self.row.len() {
@@ -96,12 +97,24 @@ impl FileStore {
         }
     }
 
+    /// What stands for the file, or the place where it would go in.
+    fn seek(&self, file: &FileId) -> Result<&Option<Bytes>, usize>
+        ensures found { IfOk result (λ slot. Some slot.now ≡ slot_of self.now.files file.now) }
+        ensures absent { IfErr result (λ place. GoesInAt self.now.files file.now place) }
+        ensures none { OnErr result (None ≡ slot_of self.now.files file.now) }
+    {
+        match self.search(file) {
+            Ok(place) => Ok(&self.row.at(place).slot),
+            Err(place) => Err(place),
+        }
+    }
+
     /// What stands for the file: nothing, a tombstone (None within) or bytes.
     pub fn slot(&self, file: &FileId) -> Option<Option<&Bytes>>
         ensures { option_map option_copied result ≡ slot_of self.now.files file.now }
     {
-        match self.search(file) {
-            Ok(place) => Some(self.row.at(place).slot.as_ref()),
+        match self.seek(file) {
+            Ok(slot) => Some(slot.as_ref()),
             Err(_) => None,
         }
     }
@@ -125,8 +138,19 @@ impl FileStore {
     {
         match self.search(&file) {
             Ok(place) => self.row.replace(place, slot),
-            Err(place) => self.row.insert(place, Held { file, slot }),
+            Err(place) => self.insert(place, file, slot),
         }
+    }
+
+    /// Puts a new entry in at the place of its file, into room that was taken.
+    fn insert(&mut self, place: usize, file: FileId, slot: Option<Bytes>)
+        requires place { GoesInAt self.old.files file place }
+        requires limit { length self.old.files < 4096 }
+        requires room { length self.old.files < self.old.room }
+        ensures files { self.new.files ≡ with_slot self.old.files file slot }
+        ensures room { self.old.room ≤ self.new.room }
+    {
+        self.row.insert(place, Held { file, slot });
     }
 
     /// The bytes of the file, and None exactly where no bytes are held, so also for a tombstone.
@@ -150,12 +174,10 @@ impl FileStore {
     pub fn would_put(&self, file: &FileId, bytes: &Bytes) -> Put
         ensures { result ≡ put_of self.now.files file.now bytes.now }
     {
-        match self.slot(file) {
-            Some(Some(held)) if is_same_text(held.as_slice(), bytes.as_slice()) => Put::Same,
-            Some(Some(_)) => Put::Differs,
-            Some(None) => Put::Gone,
-            None if self.entries() < LIMIT => Put::New,
-            None => Put::Full,
+        match self.seek(file) {
+            Ok(slot) => answer_beside(slot, bytes),
+            Err(_) if self.entries() < LIMIT => Put::New,
+            Err(_) => Put::Full,
         }
     }
 
@@ -182,13 +204,16 @@ impl FileStore {
         ensures as_before { OnErr result (self.new.files ≡ self.old.files) }
         ensures room { self.old.room ≤ self.new.room }
     {
-        let answer = self.would_put(&file, bytes);
-        if let Put::New = answer {
-            let bytes = bytes.copy(alloc)?;
-            self.reserve(1)?;
-            self.set(file, Some(bytes));
+        match self.seek(&file) {
+            Ok(slot) => Ok(answer_beside(slot, bytes)),
+            Err(_) if self.entries() == LIMIT => Ok(Put::Full),
+            Err(place) => {
+                let bytes = bytes.copy(alloc)?;
+                self.reserve(1)?;
+                self.insert(place, file, Some(bytes));
+                Ok(Put::New)
+            }
         }
-        Ok(answer)
     }
 
     /// A tombstone stands for the file from now on, unless it has no entry and 4,096 stand. Only `Buried` and `Laid`
@@ -333,5 +358,16 @@ impl FileStore {
         ensures { result ≡ list_all (has_tomb self.now.files) files.now }
     {
         files.iter().all(|file| self.is_gone(file))
+    }
+}
+
+/// What `put` answers where this stands.
+fn answer_beside(slot: &Option<Bytes>, bytes: &Bytes) -> Put
+    ensures { (room : Bool) → result ≡ put_at (Some slot.now) bytes.now room }
+{
+    match slot {
+        Some(held) if is_same_text(held.as_slice(), bytes.as_slice()) => Put::Same,
+        Some(_) => Put::Differs,
+        None => Put::Gone,
     }
 }
