@@ -12,3 +12,4 @@ pub mod RingSteps
 pub mod Rows
 pub mod Nearest
 pub mod Hops
+pub mod Onward

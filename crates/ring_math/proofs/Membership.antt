@@ -1,7 +1,10 @@
 -- Membership in a list of numbers, by its first element and under a filter; std's `Contains` is by index.
-use Rattle.std.proofs.Common.{◌≡◌, ℕ, Bool, true, false, ◌⊎◌, List, [], ◌∷◌, zero, suc, sym, refl, arith, inl, inr}
+use Rattle.std.proofs.Common.{◌≡◌, ℕ, Bool, true, false, ◌⊎◌, List, [], ◌∷◌, zero, suc, sym, refl, subst, arith, inl, inr}
+use Rattle.std.specs.Prelude.{◌==◌}
 use Rattle.std.specs.List.{Contains, filter}
-use Rattle.std.proofs.lemmas.Bool.{cond_both}
+use Rattle.std.proofs.lemmas.Bool.{cond_both, or_cases}
+use Rattle.std.proofs.lemmas.Bool.Decides.{Decides-eqb}
+use Rattle.ring_math.specs.Sides.{is_in}
 
 pub Contains-here : (x : ℕ) (xs : List ℕ) → Contains (x ∷ xs) x
 Contains-here x xs = (0, omega arith, refl)
@@ -35,3 +38,12 @@ filter_step t x xs z rest =
 pub Contains-from_filter : (t : ℕ → Bool) (xs : List ℕ) (z : ℕ) → Contains (filter t xs) z → Contains xs z × (t z ≡ true)
 Contains-from_filter t [] z c = absurd (Contains-none z c)
 Contains-from_filter t (x ∷ xs) z c = filter_step t x xs z (Contains-from_filter t xs z) c
+
+-- the test of membership
+pub Contains-is_in : (xs : List ℕ) (y : ℕ) → is_in xs y ≡ true → Contains xs y
+Contains-is_in [] y e = cc
+Contains-is_in (x ∷ xs) y e =
+    elim (or_cases (x == y) (is_in xs y) e) [
+      | inl f ↦ let same : x ≡ y = (Decides-eqb x y).0 f in subst (Contains (x ∷ xs)) same (Contains-here x xs)
+      | inr f ↦ Contains-there x xs y (Contains-is_in xs y f)
+    ]
