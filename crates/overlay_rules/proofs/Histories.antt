@@ -1,14 +1,13 @@
 -- Records entry by entry: which entry comes where, what the world is after it, and where each message comes from.
-use Rattle.std.proofs.Common.{◌≡◌, ◌≢◌, ◌⊎◌, inl, inr, ℕ, zero, suc, ◌+◌, ◌-◌, ◌<◌, ◌≤◌, Bool, true, false, ◌==◌, Option, Some, None, List, [], ◌∷◌, ◌++◌, map, take, length, slice_get, Contains, refl, sym, subst, ap, ◌∙◌, append_assoc, append-nil, length-append, arith}
-use Rattle.std.proofs.lemmas.Bool.{cond_both, cond-true, cond-false, cases_lt}
+use Rattle.std.proofs.Common.{◌≡◌, ◌≢◌, ◌⊎◌, inl, inr, ℕ, zero, suc, ◌+◌, ◌-◌, ◌<◌, ◌≤◌, ◌==◌, Some, None, List, [], ◌∷◌, ◌++◌, map, take, length, slice_get, Contains, refl, sym, subst, ap, ◌∙◌, append_assoc, append-nil, length-append, arith}
+use Rattle.std.proofs.lemmas.Bool.{cond_both, cond-true}
 use Rattle.std.proofs.lemmas.Bool.Decides.{Decides-eqb}
 use Rattle.wire_msg.specs.Words.{Envelope, Sent}
 use Rattle.overlay_rules.specs.declared.entry.Entry.{Entry}
 use Rattle.overlay_rules.specs.State.{State}
-use Rattle.overlay_rules.specs.Step.{step}
 use Rattle.overlay_rules.specs.Record.{Setting, World, sent_in, state_at, after, run, unstamped, enveloped, Follows, LegalFrom, Legal, world_at_start, world_after}
 use Rattle.overlay_rules.specs.Rightly.{SentBy}
-use Rattle.overlay_rules.proofs.Each.{Each, Each-contains}
+use Rattle.overlay_rules.proofs.Each.{Each}
 
 -- ---- what was sent
 

@@ -1,25 +1,14 @@
--- One more entry at the end of a record: what was sent and delivered, where the worlds of its prefixes are, and that each note stays right.
-use Rattle.std.proofs.Common.{◌≡◌, ◌⊎◌, ◌<◌, ℕ, zero, suc, ◌+◌, Bool, true, false, ◌||◌, Some, List, [], ◌∷◌, ◌++◌, length, take, Contains, slice_get, refl, sym, subst, ap, ◌∙◌, inl, inr, append_assoc, append-nil, arith}
-use Rattle.std.proofs.lemmas.Bool.Decides.{Decides-eqb}
+-- One more entry at the end of a record: which messages were delivered, and that each note stays right.
+use Rattle.std.proofs.Common.{◌≡◌, ◌⊎◌, ◌<◌, ℕ, zero, suc, ◌+◌, Bool, true, false, ◌||◌, Some, List, [], ◌∷◌, ◌++◌, length, take, Contains, slice_get, refl, sym, subst, ap, ◌∙◌, inl, inr, arith}
 use Rattle.std.proofs.lemmas.List.{take-append-le}
 use Rattle.std.proofs.lemmas.List.Folds.{list_any-append}
 use Rattle.std.proofs.Math.Seq.{take-append_seam, take-append-add}
 use Rattle.wire_msg.specs.declared.note.Note.{Note}
 use Rattle.overlay_rules.specs.declared.entry.Entry.{Entry}
-use Rattle.overlay_rules.specs.State.{State}
-use Rattle.overlay_rules.specs.Record.{Setting, World, Visit, visit, sent_in, state_at, after, run, world_at_start}
+use Rattle.overlay_rules.specs.Record.{Setting, World, Visit, visit, sent_in, after, run, world_at_start}
 use Rattle.overlay_rules.specs.Played.{was_delivered, is_delivery_of}
 use Rattle.overlay_rules.specs.Rightly.{EachNote}
-
--- all that was sent
-pub sent_in-more : (past : List Entry) (e : Entry) → sent_in (past ++ e ∷ []) ≡ sent_in past ++ e.messages
-sent_in-more [] e = append-nil e.messages
-sent_in-more (x ∷ xs) e = ap (λ ys. x.messages ++ ys) (sent_in-more xs e) ∙ sym (append_assoc x.messages (sent_in xs) e.messages)
-
--- the world after all entries
-pub run-more : (w : World) (es : List Entry) (e : Entry) → run w (es ++ e ∷ []) ≡ after (run w es) e
-run-more w [] e = refl
-run-more w (x ∷ xs) e = run-more (after w x) xs e
+use Rattle.overlay_rules.proofs.Histories.{run-push}
 
 pub or_false : (b : Bool) → b || false ≡ b
 or_false b = elim b as (λ v. v || false ≡ v) [ true ↦ refl | false ↦ refl ]
@@ -28,10 +17,6 @@ or_false b = elim b as (λ v. v || false ≡ v) [ true ↦ refl | false ↦ refl
 pub was_delivered-more : (w : World) (e : Entry) (m : ℕ) → was_delivered (after w e) m ≡ was_delivered w m || is_delivery_of m e.event
 was_delivered-more w e m =
     list_any-append (λ x. is_delivery_of m x.event) w.past (e ∷ []) ∙ ap (λ b. was_delivered w m || b) (or_false (is_delivery_of m e.event))
-
--- a node that has its new state
-pub state_at-same : (states : ℕ → State) (x : ℕ) (s : State) → state_at states x s x ≡ s
-state_at-same states x s = rw ((Decides-eqb x x).1 refl) refl
 
 -- an element of a list that has grown at its end stands where it stood
 pub slice_get-more : {A : Type 0} (xs ys : List A) (i : ℕ) → i < length xs → slice_get (xs ++ ys) i ≡ slice_get xs i
@@ -93,6 +78,6 @@ EachNote-more g P past e old new i d at n is_entry is_at is_note =
         ap (λ k. take (k + 1) (past ++ e ∷ [])) is_last ∙ take-append-add past (e ∷ []) 1 in
         let so : Between g P d at n past (past ++ e ∷ []) =
         subst (λ x. Contains x.notes n → Between g P x at n past (past ++ e ∷ [])) is_new
-        (λ c v. subst (λ z. P (run (world_at_start g) past) z e at.node n) (sym (run-more (world_at_start g) past e)) (new at n v c)) is_note in
+        (λ c v. subst (λ z. P (run (world_at_start g) past) z e at.node n) (sym (run-push (world_at_start g) past e)) (new at n v c)) is_note in
         subst (λ xs. Between g P d at n xs (take (i + 1) (past ++ e ∷ []))) (sym here)
         (subst (λ ys. Between g P d at n past ys) (sym next) so)

@@ -1,7 +1,6 @@
 -- What one step may do to a node's seat on the ring, row by row: its phase, gates and knowledge, and the messages of joins.
 -- The rows of lookups and files are one, `serves`; those where nothing happens are another.
-use Rattle.std.proofs.Common.{◌≡◌, ◌≢◌, ◌<◌, ◌⊎◌, ℕ, ◌+◌, Bool, true, false, not, ◌&&◌, ◌||◌, ◌==◌, if◌then◌else◌, Option, Some, None, is_none, List, [], ◌∷◌, ◌++◌, filter, map}
-use Rattle.std.specs.List.{list_all, list_any}
+use Rattle.std.proofs.Common.{◌≡◌, ◌≢◌, ◌<◌, ◌⊎◌, ℕ, ◌+◌, Bool, true, false, not, ◌&&◌, ◌||◌, ◌==◌, if◌then◌else◌, Option, Some, None, is_none, List, [], ◌∷◌, filter, map}
 use Rattle.ring_math.specs.Sides.{leaves, learn_all, learn}
 use Rattle.ring_math.specs.Files.{slot_of, has_room}
 use Rattle.coverage.specs.GapFiles.{Lists}
@@ -20,7 +19,7 @@ use Rattle.overlay_rules.specs.State.{State, Phase, Waiting, Asking, Probing, Le
 use Rattle.overlay_rules.specs.Outcome.{Outcome, Input, Command, Comes, Noise, Sent, nothing, becomes, sent, to_both, to_each}
 use Rattle.overlay_rules.specs.Routed.{way_of, one_more, members}
 use Rattle.overlay_rules.specs.Replicas.{holding}
-use Rattle.overlay_rules.specs.Joining.{stopped, given_up, idle, is_unanswered, unanswered, answered_by, was_probed, leasing, probing_on, learnt_of, kept_first, with_grant}
+use Rattle.overlay_rules.specs.Joining.{stopped, given_up, idle, unanswered, answered_by, was_probed, leasing, probing_on, learnt_of, kept_first, with_grant}
 use Rattle.overlay_rules.specs.ReadyTest.{readied, has_all}
 use Rattle.overlay_rules.specs.Gates.{blocked_by, fits, is_again, holds_gate}
 use Rattle.overlay_rules.specs.Gatekeeper.{links_of, cleared, deny, granted, lists_of, newly_gated, on_release, confirmed}

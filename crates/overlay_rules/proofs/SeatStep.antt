@@ -1,24 +1,22 @@
 -- Each step is one of the rows of `Seat`.
-use Rattle.std.proofs.Common.{◌≡◌, ◌≢◌, ◌<◌, ◌⊎◌, inl, inr, ℕ, ◌-◌, ◌∙◌, Bool, true, false, not, nat_lt, ◌&&◌, ◌||◌, ◌==◌, if◌then◌else◌, Option, Some, None, is_none, List, [], ◌∷◌, ◌++◌, filter, length, map, position, slice_get, refl, sym, subst, ap, arith}
+use Rattle.std.proofs.Common.{◌≡◌, ◌≢◌, ◌<◌, inl, inr, ℕ, ◌∙◌, true, false, not, nat_lt, ◌&&◌, ◌||◌, ◌==◌, Option, Some, None, is_none, List, [], ◌∷◌, ◌++◌, filter, map, position, slice_get, refl, sym, subst, ap, arith}
 use Rattle.std.specs.List.{list_all, list_any}
 use Rattle.std.proofs.lemmas.Bool.{cond_both, and_parts}
 use Rattle.std.proofs.lemmas.Bool.Decides.{Decides-eqb, nat_tests}
 use Rattle.ring_math.specs.Bytewise.{same_bytes}
 use Rattle.ring_math.specs.Keys.{key_of}
 use Rattle.ring_math.specs.Sides.{leaves, is_in, learn_all}
-use Rattle.ring_math.specs.Files.{Slot, slot_of, with_slot, has_room}
+use Rattle.ring_math.specs.Files.{Slot, slot_of, has_room}
 use Rattle.ring_math.specs.declared.file.Held.{Held}
 use Rattle.coverage.specs.declared.Hop.{Hop}
 use Rattle.coverage.specs.declared.Hop.TheVariants as hop
 use Rattle.coverage.specs.GapFiles.{Lists, lists_in_gap}
 use Rattle.wire_msg.specs.declared.command.Command.TheVariants as command
-use Rattle.wire_msg.specs.declared.note.Note.{Note}
 use Rattle.wire_msg.specs.declared.note.Note.TheVariants as note
 use Rattle.wire_msg.specs.declared.reply.Own.TheVariants as own
 use Rattle.wire_msg.specs.declared.reply.Reply.{Reply}
 use Rattle.wire_msg.specs.declared.reply.Reply.TheVariants as reply
 use Rattle.wire_msg.specs.declared.reply.Why.{Why}
-use Rattle.wire_msg.specs.declared.reply.Why.TheVariants as why
 use Rattle.wire_msg.specs.Words.{Message, Lookup, LookupReply, Insert, InsertReply, Fetch, FetchReply, JoinRequest, JoinReply, JoinRefuse, Probe, ProbeReply, LeaseRequest, Grant, Deny, Handover, Release, Confirm, Announce, Replicate, ReplicaAck, Reclaim, ReclaimReply}
 use Rattle.overlay_rules.specs.declared.gate.Verdict.{Verdict}
 use Rattle.overlay_rules.specs.declared.gate.Verdict.TheVariants as verdict
@@ -28,8 +26,8 @@ use Rattle.overlay_rules.specs.declared.request.Pending.{Pending}
 use Rattle.overlay_rules.specs.declared.request.Way.{Way}
 use Rattle.overlay_rules.specs.declared.request.Way.TheVariants as way
 use Rattle.overlay_rules.specs.State.{State, Phase, Waiting, Asking, Probing, Leasing, Ready, attempt_of, is_ready, is_joining}
-use Rattle.overlay_rules.specs.Outcome.{Outcome, Input, Command, Comes, Noise, Sent, nothing, becomes, before, sent, to_each, reply_message}
-use Rattle.overlay_rules.specs.Routed.{way_by, way_in, way_of, one_more, members, served, on_lookup, join_request_by}
+use Rattle.overlay_rules.specs.Outcome.{Outcome, Input, Command, Comes, Noise, Sent, nothing, before, sent, to_each, reply_message}
+use Rattle.overlay_rules.specs.Routed.{way_by, way_in, way_of, one_more, served, on_lookup, join_request_by}
 use Rattle.overlay_rules.specs.Roots.{targets_of, replicated, has_too_few, inserted, accepted, is_of, replied_each, reclaimed, on_fetch, on_insert, on_reclaim}
 use Rattle.overlay_rules.specs.Replicas.{holding, replicate_at, ack_taken, ack_of, ack_at, handover_at, awaits, on_reply}
 use Rattle.overlay_rules.specs.Joining.{join_in, give_up_in, refuse_in, probing, join_reply_in, is_unanswered, answered_by, unanswered, was_probed, probed_on, probe_reply_in, deny_in, kept_first, with_grant, older_grant, grant_in}

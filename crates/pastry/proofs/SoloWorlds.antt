@@ -20,7 +20,8 @@ use Rattle.overlay_rules.specs.Record.{World, Visit, visit, visit_of, sent_in, s
 use Rattle.overlay_rules.specs.Played.{entry_of, entry_at, happened, was_delivered}
 use Rattle.overlay_rules.specs.Ready.{IsReadyIn}
 use Rattle.overlay_rules.specs.Rightly.{WasCommanded, RightlyDelivered, RightLookupNote, RightLookupReply}
-use Rattle.overlay_rules.proofs.OneMore.{sent_in-more, run-more, was_delivered-more, or_false, state_at-same, slice_get-more, slice_get-last, EachNote-more}
+use Rattle.overlay_rules.proofs.OneMore.{was_delivered-more, or_false, slice_get-more, slice_get-last, EachNote-more}
+use Rattle.overlay_rules.proofs.Histories.{sent_in-push, run-push, state_at-itself}
 use Rattle.pastry.specs.Solo.{SoloPlay, StandsFor, IsReply, alone, reply_to, looked_up, came_back, numbers_from}
 use Rattle.pastry.proofs.SoloSteps.{founder_waiting, lookup_alone, reply_alone, numbers-more}
 
@@ -42,7 +43,7 @@ the_last xs a = Contains-append_right xs (a ∷ []) a (the_first a [])
 IsReply-more : (w : World) (e : Entry) (me m : ℕ) → m < length (sent_in w.past) → IsReply w me m → IsReply (after w e) me m
 IsReply-more w e me m lt r = record {
   stamp = r.stamp;
-  is = ap (λ xs. slice_get xs m) (sent_in-more w.past e) ∙ slice_get-more (sent_in w.past) e.messages m lt ∙ r.is;
+  is = ap (λ xs. slice_get xs m) (sent_in-push w.past e) ∙ slice_get-more (sent_in w.past) e.messages m lt ∙ r.is;
   answered = (r.answered.0, (Contains-append_left w.past (e ∷ []) r.answered.0 r.answered.1.0, r.answered.1.1));
 }
 
@@ -105,7 +106,7 @@ lookup_state : (p : SoloPlay) (w : World) (key : ℕ) → StandsFor p w →
     (after w (looked_up (length p.entries + 1) p.me (p.sent + 1) key)).states p.me ≡
     founder_waiting p.me (numbers_from (p.delivered + 1) (p.sent + 1 - p.delivered))
 lookup_state p w key h =
-    state_at-same w.states p.me (step (w.states p.me) (Command (p.sent + 1) (command.Lookup key))).state
+    state_at-itself w.states p.me (step (w.states p.me) (Command (p.sent + 1) (command.Lookup key))).state
     ∙ ap (λ (o : Outcome). o.state) (lookup_step p w key h)
     ∙ ap (founder_waiting p.me) (waits-more p.sent p.delivered h.within)
 
@@ -161,10 +162,10 @@ pub lookup_stands : (p : SoloPlay) (w : World) (key : ℕ) → StandsFor p w →
 lookup_stands p w key h =
     subst (λ (x : Entry). StandsFor (with_lookup p key) (after w x)) (sym (lookup_entry p w key h)) (record {
       entries = ap (λ (es : List Entry). es ++ e ∷ []) h.entries;
-      reached = ap (λ (z : World). after z e) h.reached ∙ sym (run-more (world_at_start (alone p.me)) w.past e);
+      reached = ap (λ (z : World). after z e) h.reached ∙ sym (run-push (world_at_start (alone p.me)) w.past e);
       within = omega (arith, h.within);
       state = lookup_state p w key h;
-      sent = ap length (sent_in-more w.past e) ∙ length-append (sent_in w.past) e.messages ∙ ap (λ k. k + 1) h.sent;
+      sent = ap length (sent_in-push w.past e) ∙ length-append (sent_in w.past) e.messages ∙ ap (λ k. k + 1) h.sent;
       replies = λ m lt. reply_at m lt;
       delivered = λ m. was_delivered-more w e m ∙ or_false (was_delivered w m) ∙ h.delivered m;
       fresh = λ x y n c is_in is. fresh_at x y n c is_in is;
@@ -178,7 +179,7 @@ lookup_stands p w key h =
     new_reply : IsReply (after w e) p.me p.sent
     new_reply = record {
       stamp = length p.entries + 1;
-      is = ap (λ xs. slice_get xs p.sent) (sent_in-more w.past e)
+      is = ap (λ xs. slice_get xs p.sent) (sent_in-push w.past e)
           ∙ ap (λ m. slice_get (sent_in w.past ++ e.messages) m) (sym h.sent) ∙ slice_get-last (sent_in w.past) (reply_to (length p.entries + 1) p.me (p.sent + 1));
       answered = (e, (the_last w.past e, (1, omega arith, refl)));
     }
@@ -237,7 +238,7 @@ reply_state : (p : SoloPlay) (w : World) → StandsFor p w → p.delivered < p.s
     founder_waiting p.me (numbers_from (p.delivered + 1 + 1) (p.sent - (p.delivered + 1)))
 reply_state p w h lt =
     ap (λ (v : Option Visit). states_after w.states v p.me) (reply_visit p w h lt)
-    ∙ state_at-same w.states p.me (step (w.states p.me) (Comes p.me (LookupReply (p.delivered + 1) (reply.Delivered p.me 0)))).state
+    ∙ state_at-itself w.states p.me (step (w.states p.me) (Comes p.me (LookupReply (p.delivered + 1) (reply.Delivered p.me 0)))).state
     ∙ ap (λ (o : Outcome). o.state) (reply_step p w h lt)
 
 -- the closing of a lookup is right
@@ -263,10 +264,10 @@ pub reply_stands : (p : SoloPlay) (w : World) → StandsFor p w → p.delivered 
 reply_stands p w h lt =
     subst (λ (x : Entry). StandsFor (with_reply p) (after w x)) (sym (reply_entry p w h lt)) (record {
       entries = ap (λ (es : List Entry). es ++ e ∷ []) h.entries;
-      reached = ap (λ (z : World). after z e) h.reached ∙ sym (run-more (world_at_start (alone p.me)) w.past e);
+      reached = ap (λ (z : World). after z e) h.reached ∙ sym (run-push (world_at_start (alone p.me)) w.past e);
       within = omega arith;
       state = reply_state p w h lt;
-      sent = ap length (sent_in-more w.past e) ∙ length-append (sent_in w.past) e.messages ∙ ap (λ k. k + 0) h.sent ∙ omega arith;
+      sent = ap length (sent_in-push w.past e) ∙ length-append (sent_in w.past) e.messages ∙ ap (λ k. k + 0) h.sent ∙ omega arith;
       replies = λ m below. IsReply-more w e p.me m (rw h.sent below) (h.replies m below);
       delivered = λ m. was_delivered-more w e m ∙ delivered_at m (was_delivered w m) (h.delivered m);
       fresh = λ x y n c is_in is. fresh_at x y n c is_in is;
