@@ -1,6 +1,6 @@
 -- One identifier i added to a set, between a member h and its neighbour y on a side: what becomes of the neighbours on that side.
 -- h has i from then on, i has y, and each other member keeps its neighbour. And h alone has i before its neighbour.
-use Rattle.std.proofs.Common.{◌≡◌, ◌≢◌, ℕ, Bool, true, false, ◌^◌, ◌<◌, ◌≤◌, sym, subst, arith, inl, inr}
+use Rattle.std.proofs.Common.{◌≡◌, ◌≢◌, ℕ, Bool, true, false, ◌^◌, ◌<◌, ◌≤◌, subst, arith, inl, inr}
 use Rattle.std.proofs.lemmas.Bool.{cases_eq}
 use Rattle.ring_math.specs.Members.{InRing, with}
 use Rattle.ring_math.proofs.Distances.{turn_cases}
@@ -13,7 +13,8 @@ InRing-with P i range hi z (inl pz) = range z pz
 InRing-with P i range hi z (inr e) = rw e hi
 
 -- what is no nearer than y on the way from h is no nearer from each i before y
-beyond : (right : Bool) (h i y z : ℕ) → h < 2 ^ 128 → i < 2 ^ 128 → y < 2 ^ 128 → z < 2 ^ 128 → way right h i < way right h y → way right h y ≤ way right h z → way right i y ≤ way right i z
+beyond : (right : Bool) (h i y z : ℕ) → h < 2 ^ 128 → i < 2 ^ 128 → y < 2 ^ 128 → z < 2 ^ 128 → way right h i < way right h y →
+    way right h y ≤ way right h z → way right i y ≤ way right i z
 beyond true h i y z hh hi hy hz lt le = grind (arith, turn_cases h i hh hi, turn_cases h y hh hy, turn_cases h z hh hz, turn_cases i y hi hy, turn_cases i z hi hz)
 beyond false h i y z hh hi hy hz lt le = grind (arith, turn_cases i h hi hh, turn_cases y h hy hh, turn_cases z h hz hh, turn_cases y i hy hi, turn_cases z i hz hi)
 
@@ -23,12 +24,14 @@ behind : (right : Bool) (h y i x z : ℕ) → h < 2 ^ 128 → y < 2 ^ 128 → i 
 behind true h y i x z hh hy hi hx hz ne a b c = grind (arith, turn_cases x h hx hh, turn_cases x i hx hi, turn_cases h i hh hi, turn_cases h x hh hx)
 behind false h y i x z hh hy hi hx hz ne a b c = grind (arith, turn_cases h x hh hx, turn_cases i x hi hx, turn_cases i h hi hh, turn_cases x h hx hh)
 
-pub added_next : (right : Bool) (P : ℕ → Type 0) (h y i : ℕ) → InRing P → i < 2 ^ 128 → P h → IsNext right P h y → stands right h i y ≡ true → IsNext right (with P i) h i
+pub added_next : (right : Bool) (P : ℕ → Type 0) (h y i : ℕ) → InRing P → i < 2 ^ 128 → P h → IsNext right P h y → stands right h i y ≡ true →
+    IsNext right (with P i) h i
 added_next right P h y i range hi ph n b =
     let lt : way right h i < way right h y = before_from_stands right h i y (range h ph) hi (range y (next_member right P h y n)) b in
     least_next right (with P i) h i (least_new (way right h) P i y (next_least right P h y n) (omega arith))
 
-pub added_from : (right : Bool) (P : ℕ → Type 0) (h y i : ℕ) → InRing P → i < 2 ^ 128 → P h → IsNext right P h y → stands right h i y ≡ true → IsNext right (with P i) i y
+pub added_from : (right : Bool) (P : ℕ → Type 0) (h y i : ℕ) → InRing P → i < 2 ^ 128 → P h → IsNext right P h y → stands right h i y ≡ true →
+    IsNext right (with P i) i y
 added_from right P h y i range hi ph n b =
     let hh = range h ph in
     let hy = range y (next_member right P h y n) in

@@ -33,11 +33,13 @@ pub arcs_itself : (x l r : ℕ) → in_arcs x l r x ≡ true
 unfolding in_arcs
 arcs_itself x l r = grind (arith, nat_tests)
 
-pub arcs_by_right : (x l r key : ℕ) → x < 2 ^ 128 → r < 2 ^ 128 → key < 2 ^ 128 → turn x key < turn x r → cw_of x key ≤ cw_of key r → in_arcs x l r key ≡ true
+pub arcs_by_right : (x l r key : ℕ) → x < 2 ^ 128 → r < 2 ^ 128 → key < 2 ^ 128 → turn x key < turn x r → cw_of x key ≤ cw_of key r →
+    in_arcs x l r key ≡ true
 unfolding in_arcs
 arcs_by_right x l r key hx hr hk a b = grind (arith, nat_tests, is_between-turn x key r hx hk hr)
 
-pub arcs_by_left : (x l r key : ℕ) → x < 2 ^ 128 → l < 2 ^ 128 → key < 2 ^ 128 → turn key x < turn l x → cw_of key x < cw_of l key → in_arcs x l r key ≡ true
+pub arcs_by_left : (x l r key : ℕ) → x < 2 ^ 128 → l < 2 ^ 128 → key < 2 ^ 128 → turn key x < turn l x → cw_of key x < cw_of l key →
+    in_arcs x l r key ≡ true
 unfolding in_arcs
 arcs_by_left x l r key hx hl hk a b =
     grind (arith, nat_tests, is_between-turn l key x hl hk hx, turn_cases l key hl hk, turn_cases l x hl hx, turn_cases key x hk hx)

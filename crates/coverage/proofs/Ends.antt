@@ -1,14 +1,14 @@
 -- Coverage and gap by the ends of a node's two arcs, one form for both sides.
 -- A node covers what the arcs up to its ends have; standing alone is no case of its own.
-use Rattle.std.proofs.Common.{◌≡◌, ℕ, Bool, true, false, ◌&&◌, not, ◌^◌, ◌<◌, ◌≤◌, ◌⊎◌, ◌≢◌, Option, Some, None, refl, sym, ◌∙◌, ap, arith, inl, inr}
+use Rattle.std.proofs.Common.{◌≡◌, ℕ, Bool, true, false, ◌&&◌, not, ◌^◌, ◌<◌, ◌≤◌, ◌⊎◌, ◌≢◌, Option, Some, None, refl, sym, ◌∙◌, ap, subst, arith, inl, inr}
 use Rattle.std.proofs.lemmas.Bool.{cases_Bool, cases_eq, cond-true, cond-false}
 use Rattle.std.proofs.lemmas.Bool.Decides.{nat_tests}
-use Rattle.ring_math.proofs.Nearness.{rank}
+use Rattle.std.proofs.lemmas.Option.{same_Some}
 use Rattle.coverage.specs.declared.Reach.{Reach}
 use Rattle.coverage.specs.Coverage.{in_arcs, covers_of, gap_of, gap_for, or_else, in_gap_of, taken_of, without, is_alone, left_end, right_end, left_with, right_with}
 use Rattle.coverage.specs.Links.{stands}
 use Rattle.coverage.proofs.Ways.{way, before_from_stands}
-use Rattle.coverage.proofs.Arcs.{InHalf, Near, arcs_true, arcs_itself, arcs_by_right, arcs_by_left, arcs_or_nearer}
+use Rattle.coverage.proofs.Arcs.{InHalf, arcs_true, arcs_itself, arcs_by_right, arcs_by_left, arcs_or_nearer, half_longer}
 
 -- ---- the parts of a reach on a side
 
@@ -34,12 +34,9 @@ pub cases_Option : (o : Option ℕ) → (o ≡ None) ⊎ ((j : ℕ) × (o ≡ So
 cases_Option None = inl refl
 cases_Option (Some j) = inr (j, refl)
 
-some_apart : (i j : ℕ) → Some i ≡ Some j → i ≡ j
-some_apart i j e = cc
-
 pub cases_joiner : (o : Option ℕ) (j : ℕ) → (o ≡ Some j) ⊎ (o ≡ Some j → ⊥)
 cases_joiner None j = inr (λ e. cc)
-cases_joiner (Some i) j = elim (cases_eq i j) [ inl e ↦ inl (ap Some e) | inr ne ↦ inr (λ e. ne (some_apart i j e)) ]
+cases_joiner (Some i) j = elim (cases_eq i j) [ inl e ↦ inl (ap Some e) | inr ne ↦ inr (λ e. ne (same_Some i j e)) ]
 
 -- ---- where the arcs end
 
@@ -47,11 +44,13 @@ pub end_on-free : (right : Bool) (r : Reach) → joiner_on right r ≡ None → 
 end_on-free true r e = grind (arith, e)
 end_on-free false r e = grind (arith, e)
 
-pub end_on-joiner : (right : Bool) (r : Reach) (j : ℕ) → joiner_on right r ≡ Some j → stands right r.me j (link_on right r) ≡ true → end_on right r ≡ j
+pub end_on-joiner : (right : Bool) (r : Reach) (j : ℕ) → joiner_on right r ≡ Some j → stands right r.me j (link_on right r) ≡ true →
+    end_on right r ≡ j
 end_on-joiner true r j e b = grind (arith, nat_tests, e, b)
 end_on-joiner false r j e b = grind (arith, nat_tests, e, b)
 
-pub end_on-beside : (right : Bool) (r : Reach) (j : ℕ) → joiner_on right r ≡ Some j → stands right r.me j (link_on right r) ≡ false → end_on right r ≡ link_on right r
+pub end_on-beside : (right : Bool) (r : Reach) (j : ℕ) → joiner_on right r ≡ Some j → stands right r.me j (link_on right r) ≡ false →
+    end_on right r ≡ link_on right r
 end_on-beside true r j e b = grind (arith, nat_tests, e, b)
 end_on-beside false r j e b = grind (arith, nat_tests, e, b)
 
@@ -60,13 +59,19 @@ pub end_on-without : (right : Bool) (r : Reach) (j : ℕ) → joiner_on right r 
 end_on-without true r j e = grind (arith, nat_tests, e)
 end_on-without false r j e = grind (arith, nat_tests, e)
 
+-- it rests on the node, its link and its joiner on that side
+pub end_on-same : (right : Bool) (r q : Reach) → r.me ≡ q.me → link_on right r ≡ link_on right q → joiner_on right r ≡ joiner_on right q →
+    end_on right r ≡ end_on right q
+end_on-same true r q me link joiner = ap (λ m. right_with m r.right r.right_joiner) me ∙ ap (λ l. right_with q.me l r.right_joiner) link ∙ ap (right_with q.me q.right) joiner
+end_on-same false r q me link joiner = ap (λ m. left_with m r.left r.left_joiner) me ∙ ap (λ l. left_with q.me l r.left_joiner) link ∙ ap (left_with q.me q.left) joiner
+
 taken_of-other : (o : Option ℕ) (j : ℕ) → (o ≡ Some j → ⊥) → taken_of o j ≡ o
 taken_of-other None j ne = refl
 taken_of-other (Some i) j ne = grind (arith, nat_tests, ne, cases_eq i j)
 
 pub joiner_on-other : (right : Bool) (r : Reach) (i j : ℕ) → joiner_on right r ≡ Some i → i ≢ j → joiner_on right (without r j) ≡ Some i
-joiner_on-other true r i j e ne = taken_of-other r.right_joiner j (λ f. ne (some_apart i j (sym e ∙ f))) ∙ e
-joiner_on-other false r i j e ne = taken_of-other r.left_joiner j (λ f. ne (some_apart i j (sym e ∙ f))) ∙ e
+joiner_on-other true r i j e ne = taken_of-other r.right_joiner j (λ f. ne (same_Some i j (sym e ∙ f))) ∙ e
+joiner_on-other false r i j e ne = taken_of-other r.left_joiner j (λ f. ne (same_Some i j (sym e ∙ f))) ∙ e
 
 -- and without a joiner of the other side alone it ends where it did
 pub end_on-other : (right : Bool) (r : Reach) (j : ℕ) → (joiner_on right r ≡ Some j → ⊥) → end_on right (without r j) ≡ end_on right r
@@ -122,7 +127,8 @@ arcs-same : (x y l m r s key : ℕ) → x ≡ y → l ≡ m → r ≡ s → in_a
 arcs-same x y l m r s key e f g = rw (e, f, g) refl
 
 -- so it rests on the ends alone: it stays where a joiner before the link becomes the link
-pub covers-ends : (r q : Reach) (key : ℕ) → r.me < 2 ^ 128 → key < 2 ^ 128 → r.me ≡ q.me → ((right : Bool) → end_on right r ≡ end_on right q) → covers_of r key ≡ covers_of q key
+pub covers-ends : (r q : Reach) (key : ℕ) → r.me < 2 ^ 128 → key < 2 ^ 128 → r.me ≡ q.me → ((right : Bool) → end_on right r ≡ end_on right q) →
+    covers_of r key ≡ covers_of q key
 covers-ends r q key hx hk me ends =
     let hq : q.me < 2 ^ 128 = rw (← me) hx in
     let left : left_end r ≡ left_end q = ends false in
@@ -130,7 +136,8 @@ covers-ends r q key hx hk me ends =
     covers-arcs r key hx hk ∙ arcs-same r.me q.me (left_end r) (left_end q) (right_end r) (right_end q) key me left right ∙ sym (covers-arcs q key hq hk)
 
 -- what half of an arc has is covered
-pub covers_by_half : (right : Bool) (r : Reach) (key : ℕ) → r.me < 2 ^ 128 → end_on right r < 2 ^ 128 → key < 2 ^ 128 → InHalf right r.me (end_on right r) key → covers_of r key ≡ true
+pub covers_by_half : (right : Bool) (r : Reach) (key : ℕ) → r.me < 2 ^ 128 → end_on right r < 2 ^ 128 → key < 2 ^ 128 →
+    InHalf right r.me (end_on right r) key → covers_of r key ≡ true
 covers_by_half true r key hx he hk h = covers_by_arcs r key (arcs_by_right r.me (left_end r) (right_end r) key hx he hk h.before h.near)
 covers_by_half false r key hx he hk h = covers_by_arcs r key (arcs_by_left r.me (left_end r) (right_end r) key hx he hk h.before h.near)
 
@@ -194,3 +201,30 @@ in_gap-parts r j key h = grind (arith, nat_tests, h, cases_Bool (covers_of (with
 
 pub in_gap_by : (r : Reach) (j key : ℕ) → covers_of (without r j) key ≡ true → covers_of r key ≡ false → in_gap_of r j key ≡ true
 in_gap_by r j key a b = grind (arith, nat_tests, a, b)
+
+half_to : (right : Bool) (r : Reach) (end key : ℕ) → end_on right r ≡ end → InHalf right r.me end key → InHalf right r.me (end_on right r) key
+half_to right r end key e h = subst (λ n. InHalf right r.me n key) (sym e) h
+
+-- a joiner takes away and never gives: without it the node covers no less
+half_without : (right : Bool) (r : Reach) (j key : ℕ) → IsReach r → key < 2 ^ 128 → InHalf right r.me (end_on right r) key →
+    covers_of (without r j) key ≡ true
+half_without right r j key range hk h =
+    elim (cases_joiner (joiner_on right r) j) [
+      | inl e ↦
+          let at_link = end_on-without right r j e in
+          let longer = half_longer right r.me (end_on right r) (link_on right r) key range.me (end_on-bound right r range) (range.link right) hk (end_on-le right r range) h in
+          covers_by_half right (without r j) key range.me (rw at_link (range.link right)) hk (half_to right (without r j) (link_on right r) key at_link longer)
+      | inr ne ↦
+          let same = end_on-other right r j ne in
+          covers_by_half right (without r j) key range.me (rw same (end_on-bound right r range)) hk (half_to right (without r j) (end_on right r) key same h)
+    ]
+
+pub covers-without : (r : Reach) (j key : ℕ) → IsReach r → key < 2 ^ 128 → covers_of r key ≡ true → covers_of (without r j) key ≡ true
+covers-without r j key range hk h = by (where_covered r key range hk h) where
+  by : WhereCovered r key → covers_of (without r j) key ≡ true
+  by (itself e) = subst (λ k. covers_of (without r j) k ≡ true) (sym e) (covers_itself (without r j))
+  by (half right g) = half_without right r j key range hk g
+
+-- so a gate uncovers exactly the gap of its joiner
+pub covers-but_gap : (r : Reach) (j key : ℕ) → IsReach r → key < 2 ^ 128 → covers_of r key ≡ covers_of (without r j) key && not (in_gap_of r j key)
+covers-but_gap r j key range hk = grind (arith, nat_tests, cases_Bool (covers_of r key), cases_Bool (covers_of (without r j) key), covers-without r j key range hk)

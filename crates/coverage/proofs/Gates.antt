@@ -1,15 +1,17 @@
 -- Links and gates: what they say is what coverage asks (`IsEnded`), and what each step of a join makes of one side of a node.
-use Rattle.std.proofs.Common.{◌≡◌, ℕ, Bool, true, false, ◌^◌, ◌<◌, ◌≤◌, ◌⊎◌, Option, Some, None, refl, sym, ◌∙◌, ap, subst, arith, inl, inr}
+use Rattle.std.proofs.Common.{◌≡◌, ℕ, Bool, true, ◌^◌, ◌<◌, ◌≤◌, ◌⊎◌, Option, Some, None, refl, sym, ◌∙◌, ap, subst, arith, inl, inr}
+use Rattle.std.proofs.lemmas.Option.{same_Some}
 use Rattle.ring_math.specs.Members.{InRing}
 use Rattle.coverage.specs.declared.Reach.{Reach}
 use Rattle.coverage.specs.Links.{IsNext, stands, Lease, Side, HasGate, HasSide, joiner_of}
 use Rattle.coverage.proofs.Ways.{before_from_stands, next_member, next_same, none_before}
-use Rattle.coverage.proofs.Ends.{link_on, joiner_on, end_on, end_on-free, end_on-joiner}
-use Rattle.coverage.proofs.Owner.{Waits, EndsRight}
+use Rattle.coverage.proofs.Ends.{link_on, joiner_on, end_on-free, end_on-joiner}
+use Rattle.coverage.proofs.Owner.{EndsRight}
 
 -- ---- what links and gates say of the ends of arcs
 
-ends_at_gate : (right : Bool) (P : ℕ → Type 0) (attempt_of : ℕ → ℕ) (x : ℕ) (r : Reach) (gate : Lease) → P gate.joiner ⊎ (P gate.joiner → ⊥) → InRing P → P x →
+ends_at_gate : (right : Bool) (P : ℕ → Type 0) (attempt_of : ℕ → ℕ) (x : ℕ) (r : Reach) (gate : Lease) → P gate.joiner ⊎ (P gate.joiner → ⊥) →
+    InRing P → P x →
     r.me ≡ x → joiner_on right r ≡ Some gate.joiner → HasGate right P attempt_of x (link_on right r) gate → EndsRight right P x r
 ends_at_gate right P attempt_of x r gate member range px me e h =
     let before_link : stands right r.me gate.joiner (link_on right r) ≡ true = subst (λ m. stands right m gate.joiner (link_on right r) ≡ true) (sym me) h.between in
@@ -35,7 +37,8 @@ cases_gate : (o : Option Lease) → (o ≡ None) ⊎ ((gate : Lease) × (o ≡ S
 cases_gate None = inl refl
 cases_gate (Some gate) = inr (gate, refl)
 
-pub side_ends : (right : Bool) (P : ℕ → Type 0) (attempt_of : ℕ → ℕ) (x : ℕ) (r : Reach) (side : Side) → ((j : ℕ) → P j ⊎ (P j → ⊥)) → InRing P → P x →
+pub side_ends : (right : Bool) (P : ℕ → Type 0) (attempt_of : ℕ → ℕ) (x : ℕ) (r : Reach) (side : Side) → ((j : ℕ) → P j ⊎ (P j → ⊥)) → InRing P →
+    P x →
     r.me ≡ x → link_on right r ≡ side.link → joiner_on right r ≡ joiner_of side.gate → HasSide right P attempt_of x side → EndsRight right P x r
 side_ends right P attempt_of x r side member range px me link joiner h =
     elim (cases_gate side.gate) [
@@ -46,9 +49,6 @@ side_ends right P attempt_of x r side member range px me link joiner h =
           ends_at_gate right P attempt_of x r gate (member gate.joiner) range px me (joiner ∙ ap joiner_of e)
           (subst (λ y. HasGate right P attempt_of x y gate) (sym link) (h.gated gate e))
     ]
-
-pub gate_apart : (g h : Lease) → Some g ≡ Some h → g ≡ h
-gate_apart g h e = cc
 
 -- ---- a side that stays, while others change
 
@@ -62,7 +62,8 @@ pub record StaysSame (P Q : ℕ → Type 0) (before after : ℕ → ℕ) : Type 
 next_stays : (right : Bool) (P Q : ℕ → Type 0) (before after : ℕ → ℕ) (x y : ℕ) → StaysSame P Q before after → IsNext right P x y → IsNext right Q x y
 next_stays right P Q before after x y st n = next_same right P Q x y st.there st.back n
 
-pub side_stays : (right : Bool) (P Q : ℕ → Type 0) (before after : ℕ → ℕ) (x : ℕ) (side : Side) → StaysSame P Q before after → HasSide right P before x side → HasSide right Q after x side
+pub side_stays : (right : Bool) (P Q : ℕ → Type 0) (before after : ℕ → ℕ) (x : ℕ) (side : Side) → StaysSame P Q before after →
+    HasSide right P before x side → HasSide right Q after x side
 side_stays right P Q before after x side st h = record {
   free = λ e. next_stays right P Q before after x side.link st (h.free e);
   gated = λ gate e. let g = h.gated gate e in record {
@@ -77,16 +78,18 @@ side_stays right P Q before after x side st h = record {
 -- ---- a side that changes, while the members stay
 
 -- a free side, with the true neighbour as its link
-pub side_free : (right : Bool) (P : ℕ → Type 0) (attempt_of : ℕ → ℕ) (x y : ℕ) → IsNext right P x y → HasSide right P attempt_of x (record { link = y; gate = None })
+pub side_free : (right : Bool) (P : ℕ → Type 0) (attempt_of : ℕ → ℕ) (x y : ℕ) → IsNext right P x y →
+    HasSide right P attempt_of x (record { link = y; gate = None })
 side_free right P attempt_of x y n = record { free = λ e. n; gated = λ gate e. cc }
 
 -- a gate is given on a free side
-pub side_granted : (right : Bool) (P : ℕ → Type 0) (attempt_of : ℕ → ℕ) (x i a : ℕ) (side : Side) → InRing P → P x → HasSide right P attempt_of x side → side.gate ≡ None →
+pub side_granted : (right : Bool) (P : ℕ → Type 0) (attempt_of : ℕ → ℕ) (x i a : ℕ) (side : Side) → InRing P → P x →
+    HasSide right P attempt_of x side → side.gate ≡ None →
     i < 2 ^ 128 → stands right x i side.link ≡ true → a ≤ attempt_of i → HasSide right P attempt_of x (record { link = side.link; gate = Some (record { joiner = i; attempt = a }) })
 side_granted right P attempt_of x i a side range px h e hi b le = record {
   free = λ f. cc;
   gated = λ gate f.
-      let same : record { joiner = i; attempt = a } ≡ gate = gate_apart (record { joiner = i; attempt = a }) gate f in
+      let same : record { joiner = i; attempt = a } ≡ gate = same_Some (record { joiner = i; attempt = a }) gate f in
       subst (HasGate right P attempt_of x side.link) same (record {
         bound = hi;
         between = b;
@@ -97,7 +100,8 @@ side_granted right P attempt_of x i a side range px h e hi b le = record {
 }
 
 -- a gate is taken away whose joiner is no member
-pub side_dropped : (right : Bool) (P : ℕ → Type 0) (attempt_of : ℕ → ℕ) (x : ℕ) (side : Side) (gate : Lease) → HasSide right P attempt_of x side → side.gate ≡ Some gate →
+pub side_dropped : (right : Bool) (P : ℕ → Type 0) (attempt_of : ℕ → ℕ) (x : ℕ) (side : Side) (gate : Lease) → HasSide right P attempt_of x side →
+    side.gate ≡ Some gate →
     (P gate.joiner → ⊥) → HasSide right P attempt_of x (record { link = side.link; gate = None })
 side_dropped right P attempt_of x side gate h e absent = side_free right P attempt_of x side.link ((h.gated gate e).before absent)
 
@@ -107,6 +111,7 @@ pub gate_stale : (right : Bool) (P : ℕ → Type 0) (attempt_of : ℕ → ℕ) 
 gate_stale right P attempt_of x link gate h lt p = let e = (h.after p).0 in absurd (omega arith)
 
 -- a joiner that is a member becomes the link
-pub side_confirmed : (right : Bool) (P : ℕ → Type 0) (attempt_of : ℕ → ℕ) (x : ℕ) (side : Side) (gate : Lease) → HasSide right P attempt_of x side → side.gate ≡ Some gate →
+pub side_confirmed : (right : Bool) (P : ℕ → Type 0) (attempt_of : ℕ → ℕ) (x : ℕ) (side : Side) (gate : Lease) → HasSide right P attempt_of x side →
+    side.gate ≡ Some gate →
     P gate.joiner → HasSide right P attempt_of x (record { link = gate.joiner; gate = None })
 side_confirmed right P attempt_of x side gate h e p = side_free right P attempt_of x gate.joiner ((h.gated gate e).after p).1

@@ -11,4 +11,5 @@ pub mod Gates
 pub mod RingSteps
 pub mod Rows
 pub mod Nearest
+pub mod Hops
 pub mod Onward

@@ -1,5 +1,5 @@
 -- The nearest of a list, by place and by value: the first place that is as near to the key as each holds what `closest_in` gives, and that is the closest member.
-use Rattle.std.proofs.Common.{◌≡◌, ℕ, ◌+◌, ◌<◌, ◌≤◌, Bool, true, false, List, [], ◌∷◌, length, drop, get_or, slice_index, Option, Some, None, refl, sym, ◌∙◌, ap, subst, arith, inl, inr}
+use Rattle.std.proofs.Common.{◌≡◌, ℕ, ◌+◌, ◌<◌, ◌≤◌, Bool, true, false, List, [], ◌∷◌, length, drop, get_or, slice_index, Some, refl, sym, ◌∙◌, ap, subst, arith, inl, inr}
 use Rattle.std.specs.Prelude.{if◌then◌else◌}
 use Rattle.std.specs.List.{Contains}
 use Rattle.std.proofs.lemmas.Bool.{cases_Bool, cases_lt, cases_order}
@@ -40,10 +40,12 @@ record IsValueOfBest (ys : List ℕ) (key value : ℕ) : Type 0 where
   is : value ≡ get_or ys place 0
   best : IsBest ys key (length ys) place
 
-closest_from-step : (key best x : ℕ) (xs : List ℕ) (b : Bool) → is_nearer x best key ≡ b → closest_from key best (x ∷ xs) ≡ closest_from key (if b then x else best) xs
+closest_from-step : (key best x : ℕ) (xs : List ℕ) (b : Bool) → is_nearer x best key ≡ b →
+    closest_from key best (x ∷ xs) ≡ closest_from key (if b then x else best) xs
 closest_from-step key best x xs b e = rw e refl
 
-best_from : (xs ys : List ℕ) (key n b : ℕ) → drop n ys ≡ xs → n ≤ length ys → IsBest ys key n b → IsValueOfBest ys key (closest_from key (get_or ys b 0) xs)
+best_from : (xs ys : List ℕ) (key n b : ℕ) → drop n ys ≡ xs → n ≤ length ys → IsBest ys key n b →
+    IsValueOfBest ys key (closest_from key (get_or ys b 0) xs)
 best_from [] ys key n b e le h =
     let all : n ≡ length ys = omega (arith, length-drop n ys, ap length e) in
     record { place = b; is = refl; best = subst (λ m. IsBest ys key m b) all h }
@@ -67,7 +69,8 @@ best_first : (ys : List ℕ) (key i : ℕ) → IsBest ys key (length ys) i → I
 best_first ys key i h = record { within = h.within; nearest = h.nearest; first = h.first }
 
 -- what `closest_in` gives stands at a first closest place
-pub closest_in-place : (x : ℕ) (xs : List ℕ) (key : ℕ) → (i : ℕ) × (closest_in key (x ∷ xs) ≡ Some (slice_index (x ∷ xs) i)) × IsFirstClosest (x ∷ xs) key i
+pub closest_in-place : (x : ℕ) (xs : List ℕ) (key : ℕ) →
+    (i : ℕ) × (closest_in key (x ∷ xs) ≡ Some (slice_index (x ∷ xs) i)) × IsFirstClosest (x ∷ xs) key i
 closest_in-place x xs key =
     let found = best_from xs (x ∷ xs) key 1 0 refl (omega arith) (best_one (x ∷ xs) key) in
     (found.place, ap Some found.is, best_first (x ∷ xs) key found.place found.best)

@@ -1,18 +1,16 @@
 -- One owner for each key, among the members of any set: each covers only what it is the closest to, and the closest covers a key or has it in a gap.
 -- All that is asked of a member is `IsEnded`: that each of its arcs ends at its true neighbour, or at one before it that is no member yet.
-use Rattle.std.proofs.Common.{◌≡◌, ℕ, Bool, true, false, ◌^◌, ◌<◌, ◌≤◌, ◌⊎◌, Option, Some, None, ◌≢◌, refl, sym, ◌∙◌, ap, subst, arith, inl, inr}
+use Rattle.std.proofs.Common.{◌≡◌, ℕ, Bool, true, false, ◌^◌, ◌<◌, ◌≤◌, ◌⊎◌, Some, ◌≢◌, refl, sym, ◌∙◌, ap, subst, arith, inl, inr}
 use Rattle.std.proofs.lemmas.Bool.{cases_Bool}
-use Rattle.std.proofs.lemmas.Bool.Decides.{nat_tests}
-use Rattle.ring_math.specs.Ring.{cw_of}
 use Rattle.ring_math.specs.Members.{IsClosest, InRing}
-use Rattle.ring_math.proofs.Nearness.{rank, same_from_rank}
-use Rattle.ring_math.proofs.Neighbours.{least_one, closest_least, least_closest}
+use Rattle.ring_math.proofs.Nearness.{rank}
+use Rattle.ring_math.proofs.Neighbours.{closest_one, closest_least, least_closest}
 use Rattle.coverage.specs.declared.Reach.{Reach}
 use Rattle.coverage.specs.Coverage.{in_arcs, covers_of, in_gap_of, without, left_end, right_end}
 use Rattle.coverage.specs.Links.{IsNext, KeepsFor, stands}
 use Rattle.coverage.proofs.Ways.{way, next_least, next_member}
 use Rattle.coverage.proofs.Arcs.{InHalf, arcs_nearest, arcs_or_nearer, arcs_true}
-use Rattle.coverage.proofs.Ends.{IsReach, link_on, joiner_on, end_on, cases_joiner, end_on-joiner, end_on-beside, end_on-without, end_on-other, joiner_on-other, covers-arcs, covers_itself, covers_by_half, in_gap_by, in_gap-parts}
+use Rattle.coverage.proofs.Ends.{link_on, joiner_on, end_on, cases_joiner, end_on-joiner, end_on-beside, end_on-without, end_on-other, joiner_on-other, covers-arcs, covers_itself, covers_by_half, in_gap_by, in_gap-parts}
 
 -- the arc of x ends at j, who is no member and stands before the next member, which is the link
 pub record Waits (right : Bool) (P : ℕ → Type 0) (x : ℕ) (r : Reach) (j : ℕ) : Type 0 where
@@ -31,12 +29,6 @@ pub record IsEnded (P : ℕ → Type 0) (x : ℕ) (r : Reach) : Type 0 where
   pub me : r.me ≡ x
   pub side : (right : Bool) → EndsRight right P x r
 
--- a set has one closest member
-pub closest_one : (P : ℕ → Type 0) (key x y : ℕ) → InRing P → key < 2 ^ 128 → IsClosest P key x → IsClosest P key y → x ≡ y
-closest_one P key x y range hk p q =
-    least_one (rank key) P x y (closest_least P key x hk range p) (closest_least P key y hk range q)
-    (same_from_rank key x y hk (range x p.member) (range y q.member))
-
 -- ---- who covers a key is the closest to it
 
 -- each member is at the end of the arc or beyond
@@ -54,7 +46,8 @@ none_before_end right P x r range (inr (j, w)) = record {
   beyond = λ z pz. let lt = w.before in let le = (next_least right P x (link_on right r) w.next).least z pz in rw w.at_end (omega arith);
 }
 
-pub covers_closest : (P : ℕ → Type 0) (x key : ℕ) (r : Reach) → InRing P → key < 2 ^ 128 → P x → IsEnded P x r → covers_of r key ≡ true → IsClosest P key x
+pub covers_closest : (P : ℕ → Type 0) (x key : ℕ) (r : Reach) → InRing P → key < 2 ^ 128 → P x → IsEnded P x r → covers_of r key ≡ true →
+    IsClosest P key x
 covers_closest P x key r range hk px ends h =
     let hx : x < 2 ^ 128 = range x px in
     let hm : r.me < 2 ^ 128 = rw ends.me hx in
@@ -84,14 +77,16 @@ a_joiner true r j e = inl e
 a_joiner false r j e = inr e
 
 -- what is covered without a joiner that is no member
-owns_by : (right : Bool) (P : ℕ → Type 0) (r : Reach) (j key : ℕ) → joiner_on right r ≡ Some j → (P j → ⊥) → covers_of (without r j) key ≡ true → Owns P r key
+owns_by : (right : Bool) (P : ℕ → Type 0) (r : Reach) (j key : ℕ) → joiner_on right r ≡ Some j → (P j → ⊥) → covers_of (without r j) key ≡ true →
+    Owns P r key
 owns_by right P r j key e absent h =
     elim (cases_Bool (covers_of r key)) [
       | inl a ↦ covers a
       | inr b ↦ keeps j (record { joiner = a_joiner right r j e; absent = absent; gap = in_gap_by r j key h b })
     ]
 
-half_at : (right : Bool) (r : Reach) (x end key : ℕ) → r.me ≡ x → end_on right r ≡ end → InHalf right x end key → InHalf right r.me (end_on right r) key
+half_at : (right : Bool) (r : Reach) (x end key : ℕ) → r.me ≡ x → end_on right r ≡ end → InHalf right x end key →
+    InHalf right r.me (end_on right r) key
 half_at right r x end key me e h = subst (λ m. InHalf right m (end_on right r) key) (sym me) (subst (λ n. InHalf right x n key) (sym e) h)
 
 -- on each side the arc to the true neighbour is covered or kept
@@ -99,7 +94,8 @@ record OwnsTo (right : Bool) (P : ℕ → Type 0) (x key : ℕ) (r : Reach) (y :
   next : IsNext right P x y
   owned : InHalf right x y key → Owns P r key
 
-owns_to : (right : Bool) (P : ℕ → Type 0) (x key : ℕ) (r : Reach) → InRing P → x < 2 ^ 128 → key < 2 ^ 128 → r.me ≡ x → EndsRight right P x r → (y : ℕ) × OwnsTo right P x key r y
+owns_to : (right : Bool) (P : ℕ → Type 0) (x key : ℕ) (r : Reach) → InRing P → x < 2 ^ 128 → key < 2 ^ 128 → r.me ≡ x → EndsRight right P x r →
+    (y : ℕ) × OwnsTo right P x key r y
 owns_to right P x key r range hx hk me (inl n) =
     let he : end_on right r < 2 ^ 128 = range (end_on right r) (next_member right P x (end_on right r) n) in
     let hm : r.me < 2 ^ 128 = rw me hx in
@@ -118,7 +114,8 @@ owns_to right P x key r range hx hk me (inr (j, w)) =
     )
 
 -- between its true neighbours, the closest has the key in its arcs
-closest_arcs : (P : ℕ → Type 0) (x p s key : ℕ) → InRing P → key < 2 ^ 128 → IsNext false P x p → IsNext true P x s → IsClosest P key x → in_arcs x p s key ≡ true
+closest_arcs : (P : ℕ → Type 0) (x p s key : ℕ) → InRing P → key < 2 ^ 128 → IsNext false P x p → IsNext true P x s → IsClosest P key x →
+    in_arcs x p s key ≡ true
 closest_arcs P x p s key range hk hp hs c =
     let least = closest_least P key x hk range c in
     let a : rank key x ≤ rank key p = least.least p (next_member false P x p hp) in
@@ -146,7 +143,8 @@ link_on-without true r j = refl
 link_on-without false r j = refl
 
 -- where the side's joiner is j the link is the true neighbour
-link_is_next : (right : Bool) (P : ℕ → Type 0) (x j : ℕ) (r : Reach) → (P j → ⊥) → r.me ≡ x → joiner_on right r ≡ Some j → EndsRight right P x r → IsNext right P x (link_on right r)
+link_is_next : (right : Bool) (P : ℕ → Type 0) (x j : ℕ) (r : Reach) → (P j → ⊥) → r.me ≡ x → joiner_on right r ≡ Some j → EndsRight right P x r →
+    IsNext right P x (link_on right r)
 link_is_next right P x j r absent me e (inr (i, w)) = w.next
 link_is_next right P x j r absent me e (inl n) =
     elim (cases_Bool (stands right r.me j (link_on right r))) [
@@ -154,7 +152,8 @@ link_is_next right P x j r absent me e (inl n) =
       | inr b ↦ subst (IsNext right P x) (end_on-beside right r j e b) n
     ]
 
-other_ends : (right : Bool) (P : ℕ → Type 0) (x j : ℕ) (r : Reach) → (joiner_on right r ≡ Some j → ⊥) → EndsRight right P x r → EndsRight right P x (without r j)
+other_ends : (right : Bool) (P : ℕ → Type 0) (x j : ℕ) (r : Reach) → (joiner_on right r ≡ Some j → ⊥) → EndsRight right P x r →
+    EndsRight right P x (without r j)
 other_ends right P x j r ne (inl n) = inl (rw (end_on-other right r j ne) n)
 other_ends right P x j r ne (inr (i, w)) =
     let apart : i ≢ j = λ f. ne (w.joiner ∙ ap Some f) in
@@ -170,7 +169,8 @@ other_ends right P x j r ne (inr (i, w)) =
       },
     )
 
-side_without : (right : Bool) (P : ℕ → Type 0) (x j : ℕ) (r : Reach) → (P j → ⊥) → r.me ≡ x → EndsRight right P x r → EndsRight right P x (without r j)
+side_without : (right : Bool) (P : ℕ → Type 0) (x j : ℕ) (r : Reach) → (P j → ⊥) → r.me ≡ x → EndsRight right P x r →
+    EndsRight right P x (without r j)
 side_without right P x j r absent me h =
     elim (cases_joiner (joiner_on right r) j) [
       | inl e ↦ inl (rw (end_on-without right r j e) (link_is_next right P x j r absent me e h))
@@ -180,5 +180,6 @@ side_without right P x j r absent me h =
 pub ended-without : (P : ℕ → Type 0) (x j : ℕ) (r : Reach) → (P j → ⊥) → IsEnded P x r → IsEnded P x (without r j)
 ended-without P x j r absent ends = record { me = ends.me; side = λ right. side_without right P x j r absent ends.me (ends.side right) }
 
-pub gap_closest : (P : ℕ → Type 0) (x j key : ℕ) (r : Reach) → InRing P → key < 2 ^ 128 → P x → (P j → ⊥) → IsEnded P x r → in_gap_of r j key ≡ true → IsClosest P key x
+pub gap_closest : (P : ℕ → Type 0) (x j key : ℕ) (r : Reach) → InRing P → key < 2 ^ 128 → P x → (P j → ⊥) → IsEnded P x r → in_gap_of r j key ≡ true →
+    IsClosest P key x
 gap_closest P x j key r range hk px absent ends h = covers_closest P x key (without r j) range hk px (ended-without P x j r absent ends) (in_gap-parts r j key h).0

@@ -1,9 +1,9 @@
 -- Progress: who neither covers a key nor has it in a gap has a link that is nearer to it; and where anybody known is nearer, so is the first leaf of a side.
-use Rattle.std.proofs.Common.{◌≡◌, ◌≢◌, ℕ, Bool, true, false, ◌^◌, ◌<◌, ◌≤◌, ◌⊎◌, List, Option, Some, None, sym, subst, arith, inl, inr}
+use Rattle.std.proofs.Common.{◌≡◌, ◌≢◌, ℕ, Bool, true, false, ◌^◌, ◌<◌, ◌≤◌, ◌⊎◌, List, None, sym, subst, arith, inl, inr}
 use Rattle.std.specs.List.{Contains}
 use Rattle.std.proofs.lemmas.Bool.{cases_Bool}
 use Rattle.std.proofs.lemmas.Bool.Decides.{nat_tests}
-use Rattle.ring_math.specs.Ring.{cw_of, is_nearer}
+use Rattle.ring_math.specs.Ring.{is_nearer}
 use Rattle.ring_math.specs.Members.{InRing}
 use Rattle.ring_math.specs.Sides.{first_or, right_side, left_side}
 use Rattle.ring_math.proofs.Distances.{turn, turn-cw}
@@ -11,7 +11,7 @@ use Rattle.ring_math.proofs.Nearness.{rank, is_nearer-rank}
 use Rattle.coverage.specs.declared.Reach.{Reach}
 use Rattle.coverage.specs.Coverage.{in_arcs, covers_of, gap_of, without}
 use Rattle.coverage.proofs.Arcs.{InHalf, arcs_nearest, arcs_or_nearer, arcs_true}
-use Rattle.coverage.proofs.Ends.{link_on, joiner_on, end_on, cases_Option, end_on-free, end_on-without, covers_itself, covers_by_half, gap_of-none, in_gap_by}
+use Rattle.coverage.proofs.Ends.{link_on, joiner_on, cases_Option, end_on-free, end_on-without, covers_itself, covers_by_half, gap_of-none, in_gap_by}
 use Rattle.coverage.proofs.Leaves.{first_right, first_left}
 
 -- ---- a link is nearer
@@ -61,8 +61,10 @@ end_is_nearer x b a y key hx hb ha hy hk fa fb h =
       | inr out' ↦ grind (arith, nat_tests, arcs_or_nearer x b a key hx hb ha hk out', is_nearer-rank a x key ha hx hk, is_nearer-rank b x key hb hx hk)
     ]
 
-pub leaf_is_nearer : (me : ℕ) (known : List ℕ) (y key : ℕ) → InRing (Contains known) → me < 2 ^ 128 → key < 2 ^ 128 → (Contains known me → ⊥) → Contains known y →
-    is_nearer y me key ≡ true → (is_nearer (first_or me (left_side me known)) me key ≡ true) ⊎ (is_nearer (first_or me (right_side me known)) me key ≡ true)
+pub leaf_is_nearer : (me : ℕ) (known : List ℕ) (y key : ℕ) → InRing (Contains known) → me < 2 ^ 128 → key < 2 ^ 128 → (Contains known me → ⊥) →
+    Contains known y →
+    is_nearer y me key ≡ true →
+    (is_nearer (first_or me (left_side me known)) me key ≡ true) ⊎ (is_nearer (first_or me (right_side me known)) me key ≡ true)
 leaf_is_nearer me known y key range hm hk unknown c h =
     let right = first_right me y known c in
     let left = first_left me y known c in

@@ -1,9 +1,8 @@
 -- The law of coverage: between its true neighbours, with no joiner, a node covers a key exactly where it is the closest.
-use Rattle.std.proofs.Common.{◌≡◌, ℕ, Bool, true, false, ◌^◌, ◌<◌, ◌⊎◌, List, ◌↔◌, Some, refl, inl, inr}
+use Rattle.std.proofs.Common.{◌≡◌, ℕ, Bool, true, false, ◌^◌, ◌<◌, List, ◌↔◌, refl, inl, inr}
 use Rattle.std.specs.List.{Contains}
 use Rattle.ring_math.specs.Members.{IsClosest, IsSucc, IsPred, InRing}
 use Rattle.coverage.specs.Coverage.{covers_of, settled}
-use Rattle.coverage.specs.Links.{KeepsFor}
 use Rattle.coverage.proofs.Owner.{IsEnded, EndsRight, Owns, covers, keeps, covers_closest, closest_owns}
 
 settled_side : (right : Bool) (P : ℕ → Type 0) (x l r : ℕ) → IsPred P x l → IsSucc P x r → EndsRight right P x (settled x l r)
@@ -26,7 +25,8 @@ pub closest-settled : (P : ℕ → Type 0) (x l r key : ℕ) → InRing P → ke
     IsClosest P key x → covers_of (settled x l r) key ≡ true
 closest-settled P x l r key range hk pl pr c = settled_covers P x l r key (closest_owns P x key (settled x l r) range hk (settled_ended P x l r pl pr) c)
 
-pub settled_law : (xs : List ℕ) (x l r key : ℕ) → InRing (Contains xs) → key < 2 ^ 128 → Contains xs x → IsPred (Contains xs) x l → IsSucc (Contains xs) x r →
+pub settled_law : (xs : List ℕ) (x l r key : ℕ) → InRing (Contains xs) → key < 2 ^ 128 → Contains xs x → IsPred (Contains xs) x l →
+    IsSucc (Contains xs) x r →
     (covers_of (settled x l r) key ≡ true) ↔ IsClosest (Contains xs) key x
 settled_law xs x l r key range hk px pl pr =
     (settled-closest (Contains xs) x l r key range hk px pl pr, closest-settled (Contains xs) x l r key range hk pl pr)

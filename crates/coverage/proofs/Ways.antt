@@ -1,8 +1,8 @@
 -- The two sides of a node as one: `way right x y` is how far y is from x, going to that side, a whole turn where y is x.
 -- On either side the neighbour is the member to which the way is least, and i stands before y where the way to it is less.
-use Rattle.std.proofs.Common.{◌≡◌, ◌≢◌, ℕ, Bool, true, false, not, ltb, ◌^◌, ◌<◌, ◌≤◌, arith}
+use Rattle.std.proofs.Common.{◌≡◌, ℕ, Bool, true, false, not, ltb, ◌^◌, ◌<◌, ◌≤◌, arith}
 use Rattle.std.proofs.lemmas.Bool.Decides.{nat_tests}
-use Rattle.ring_math.specs.Members.{IsSucc, IsPred, InRing}
+use Rattle.ring_math.specs.Members.{InRing}
 use Rattle.ring_math.proofs.Distances.{turn, turn_cases, turn-same, turn-le, same_from_turn, same_from_turn_back, is_between-turn, is_between-turn_back}
 use Rattle.ring_math.proofs.Neighbours.{IsLeast, least_one, succ_least, least_succ, pred_least, least_pred}
 use Rattle.coverage.specs.Links.{IsNext, stands}
@@ -27,7 +27,8 @@ pub stands-way : (right : Bool) (x i y : ℕ) → x < 2 ^ 128 → i < 2 ^ 128 �
 stands-way true x i y hx hi hy = is_between-turn x i y hx hi hy
 stands-way false x i y hx hi hy = is_between-turn_back y i x hy hi hx
 
-pub before_from_stands : (right : Bool) (x i y : ℕ) → x < 2 ^ 128 → i < 2 ^ 128 → y < 2 ^ 128 → stands right x i y ≡ true → way right x i < way right x y
+pub before_from_stands : (right : Bool) (x i y : ℕ) → x < 2 ^ 128 → i < 2 ^ 128 → y < 2 ^ 128 → stands right x i y ≡ true →
+    way right x i < way right x y
 before_from_stands right x i y hx hi hy h = grind (arith, nat_tests, h, stands-way right x i y hx hi hy)
 
 -- ---- the neighbour is the member to which the way is least
@@ -67,7 +68,8 @@ pub next_alone : (right : Bool) (P : ℕ → Type 0) (x : ℕ) → P x → ((z :
 next_alone right P x px only = least_next right P x x (record { member = px; least = λ z pz. rw (only z pz) (omega arith) })
 
 -- seen from either end, two neighbours are each other's
-pub way_back : (right : Bool) (x y z : ℕ) → x < 2 ^ 128 → y < 2 ^ 128 → z < 2 ^ 128 → way right x y ≤ way right x z → way (not right) y x ≤ way (not right) y z
+pub way_back : (right : Bool) (x y z : ℕ) → x < 2 ^ 128 → y < 2 ^ 128 → z < 2 ^ 128 → way right x y ≤ way right x z →
+    way (not right) y x ≤ way (not right) y z
 way_back true x y z hx hy hz le = grind (arith, turn_cases x y hx hy, turn_cases x z hx hz, turn_cases z y hz hy)
 way_back false x y z hx hy hz le = grind (arith, turn_cases y x hy hx, turn_cases z x hz hx, turn_cases y z hy hz)
 

@@ -3,3 +3,4 @@ pub mod Closest
 pub mod NextHop
 pub mod GapFiles
 pub mod Links
+pub mod Known

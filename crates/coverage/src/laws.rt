@@ -6,6 +6,9 @@ ghost use Rattle.ring_math.specs.Members.{InRing, IsPred, IsSucc, IsClosest};
 ghost use Rattle.ring_math.specs.Sides.{right_side, left_side, first_or};
 ghost use Rattle.coverage.specs.declared.Reach.{Reach};
 ghost use Rattle.coverage.specs.Coverage.{covers_of, gap_of, settled};
+ghost use Rattle.coverage.specs.declared.Hop.TheVariants.{To};
+ghost use Rattle.coverage.specs.Known.{KnowsLinks};
+ghost use Rattle.coverage.specs.NextHop.{next_hop_of};
 ghost use Rattle.coverage.specs.Links.{Side, IsRing, KeepsFor, members, reach_of};
 
 /// Coverage is being the closest: a member of a set whose links are its true neighbours there, and beside which nobody
@@ -17,7 +20,8 @@ pub fn coverage_law()
 {}
 
 /// A key goes on to a nearer node. Who neither covers it nor has it in a gap has a link that is nearer to it, and where
-/// anybody known is nearer than the node, so is the first leaf of one side.
+/// anybody known is nearer than the node, so is the first leaf of one side. So where each link is the node itself or
+/// known, the next hop is a node that is known and nearer.
 pub fn progress_law()
     ensures link { (r : Reach) (key : ℕ) → r.me < 2 ^ 128 → r.left < 2 ^ 128 → r.right < 2 ^ 128 → key < 2 ^ 128 →
         covers_of r key ≡ false → gap_of r key ≡ None →
@@ -26,10 +30,14 @@ pub fn progress_law()
         (Contains known me → ⊥) → Contains known y → is_nearer y me key ≡ true →
         (is_nearer (first_or me (left_side me known)) me key ≡ true)
         ⊎ (is_nearer (first_or me (right_side me known)) me key ≡ true) }
+    ensures hop { (r : Reach) (known : List ℕ) (key : ℕ) → KnowsLinks r known → key < 2 ^ 128 →
+        covers_of r key ≡ false → gap_of r key ≡ None →
+        (y : ℕ) × (next_hop_of r known key ≡ To y) × Contains known y × (is_nearer y r.me key ≡ true) }
 {}
 
 /// One owner for each key, among ready nodes whose links and gates are as `IsRing` says: no two cover it, who covers it
-/// is the closest, and the closest covers it or has it in its gap of a joiner that is not ready.
+/// is the closest, and the closest covers it or has it in its gap of a joiner that is not ready. Who has it in such a gap
+/// is the closest too.
 pub fn owner_law()
     ensures one { (ready : ℕ → Bool) (attempt_of : ℕ → ℕ) (sides : ℕ → Bool → Side) (x y key : ℕ) →
         IsRing (members ready) attempt_of sides → key < 2 ^ 128 → members ready x → members ready y →
@@ -41,4 +49,7 @@ pub fn owner_law()
         IsRing (members ready) attempt_of sides → key < 2 ^ 128 → IsClosest (members ready) key x →
         (covers_of (reach_of x (sides x)) key ≡ true)
         ⊎ ((j : ℕ) × KeepsFor (members ready) (reach_of x (sides x)) key j) }
+    ensures kept { (ready : ℕ → Bool) (attempt_of : ℕ → ℕ) (sides : ℕ → Bool → Side) (x j key : ℕ) →
+        IsRing (members ready) attempt_of sides → key < 2 ^ 128 → members ready x →
+        KeepsFor (members ready) (reach_of x (sides x)) key j → IsClosest (members ready) key x }
 {}

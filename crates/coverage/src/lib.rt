@@ -14,10 +14,15 @@ use ring_math::{Id, between, cw, nearer};
 /// What coverage depends on: a node, its links, and the joiners of its gates.
 #[derive(Clone, Copy, Debug, PartialEq, Eq)]
 pub struct Reach {
+    /// The node itself.
     pub me: Id,
+    /// Its link counterclockwise.
     pub left: Id,
+    /// Its link clockwise.
     pub right: Id,
+    /// Who joins beside it counterclockwise.
     pub left_joiner: Option<Id>,
+    /// Who joins beside it clockwise.
     pub right_joiner: Option<Id>,
 }
 
@@ -142,3 +147,6 @@ pub fn closest_of(ids: &[Id], key: Id) -> Option<usize>
     }
     Some(best)
 }
+
+#[cfg(test)]
+mod tests;

@@ -1,5 +1,8 @@
 pub mod Each
 pub mod Histories
+pub mod OneMore
 pub mod Seat
 pub mod SeatStep
 pub mod Sends
+pub mod RowText
+pub mod Rows

@@ -36,15 +36,15 @@ count_by-more p q (y ∷ xs) x c h px qx =
     ])
 
 -- a hop to a nearer node y leaves at least one more ready node behind: x itself
-pub farther-more : (ready : ℕ → Bool) (nodes : List ℕ) (x y k : ℕ) → Contains nodes x → ready x ≡ true → is_nearer y x k ≡ true →
-    count_by (λ z. ready z && is_nearer x z k) nodes < count_by (λ z. ready z && is_nearer y z k) nodes
-farther-more ready nodes x y k c rx n =
-    count_by-more (λ z. ready z && is_nearer x z k) (λ z. ready z && is_nearer y z k) nodes x c
-    (λ z h. grind (arith, nat_tests, h, cases_Bool (ready z), is_nearer-trans y x z k n)) (grind (arith, nat_tests, is_nearer-same x k)) (grind (arith, nat_tests, rx, n))
+pub farther-more : (ready : ℕ → Bool) (nodes : List ℕ) (x y key : ℕ) → Contains nodes x → ready x ≡ true → is_nearer y x key ≡ true →
+    count_by (λ z. ready z && is_nearer x z key) nodes < count_by (λ z. ready z && is_nearer y z key) nodes
+farther-more ready nodes x y key c rx n =
+    count_by-more (λ z. ready z && is_nearer x z key) (λ z. ready z && is_nearer y z key) nodes x c
+    (λ z h. grind (arith, nat_tests, h, cases_Bool (ready z), is_nearer-trans y x z key n)) (grind (arith, nat_tests, is_nearer-same x key)) (grind (arith, nat_tests, rx, n))
 
 -- so the nodes left behind are fewer than the ready nodes
-pub farther-fewer : (ready : ℕ → Bool) (nodes : List ℕ) (x k : ℕ) → Contains nodes x → ready x ≡ true →
-    count_by (λ z. ready z && is_nearer x z k) nodes < count_by ready nodes
-farther-fewer ready nodes x k c rx =
-    count_by-more (λ z. ready z && is_nearer x z k) ready nodes x c
-    (λ z h. grind (arith, nat_tests, h, cases_Bool (ready z))) (grind (arith, nat_tests, is_nearer-same x k)) rx
+pub farther-fewer : (ready : ℕ → Bool) (nodes : List ℕ) (x key : ℕ) → Contains nodes x → ready x ≡ true →
+    count_by (λ z. ready z && is_nearer x z key) nodes < count_by ready nodes
+farther-fewer ready nodes x key c rx =
+    count_by-more (λ z. ready z && is_nearer x z key) ready nodes x c
+    (λ z h. grind (arith, nat_tests, h, cases_Bool (ready z))) (grind (arith, nat_tests, is_nearer-same x key)) rx

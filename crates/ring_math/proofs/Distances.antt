@@ -27,7 +27,8 @@ same_from_cw a b ha hb e = omega (arith, cw_cases a b ha hb)
 pub cw-back : (a b : ℕ) → a < 2 ^ 128 → b < 2 ^ 128 → a ≢ b → cw_of a b + cw_of b a ≡ 2 ^ 128
 cw-back a b ha hb ne = omega (arith, cw_cases a b ha hb, cw_cases b a hb ha)
 
-pub cw-sum : (a b c : ℕ) → a < 2 ^ 128 → b < 2 ^ 128 → c < 2 ^ 128 → (cw_of a b + cw_of b c ≡ cw_of a c) ⊎ (cw_of a b + cw_of b c ≡ cw_of a c + 2 ^ 128)
+pub cw-sum : (a b c : ℕ) → a < 2 ^ 128 → b < 2 ^ 128 → c < 2 ^ 128 →
+    (cw_of a b + cw_of b c ≡ cw_of a c) ⊎ (cw_of a b + cw_of b c ≡ cw_of a c + 2 ^ 128)
 cw-sum a b c ha hb hc = grind (arith, cw_cases a b ha hb, cw_cases b c hb hc, cw_cases a c ha hc)
 
 -- ---- the way round
@@ -74,5 +75,6 @@ pub turn-split : (a b c : ℕ) → a < 2 ^ 128 → b < 2 ^ 128 → c < 2 ^ 128 �
 turn-split a b c ha hb hc lt = grind (arith, turn_cases a b ha hb, turn_cases a c ha hc, turn_cases b c hb hc)
 
 -- what is no nearer than c on the way from a is no nearer than c from each b before c
-pub turn-beyond : (a b c d : ℕ) → a < 2 ^ 128 → b < 2 ^ 128 → c < 2 ^ 128 → d < 2 ^ 128 → turn a b < turn a c → turn a c ≤ turn a d → turn b c ≤ turn b d
+pub turn-beyond : (a b c d : ℕ) → a < 2 ^ 128 → b < 2 ^ 128 → c < 2 ^ 128 → d < 2 ^ 128 → turn a b < turn a c → turn a c ≤ turn a d →
+    turn b c ≤ turn b d
 turn-beyond a b c d ha hb hc hd lt le = omega (arith, turn-split a b c ha hb hc lt, turn-split a b d ha hb hd (omega arith))

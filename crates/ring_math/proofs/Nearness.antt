@@ -10,7 +10,8 @@ use Rattle.ring_math.proofs.Distances.{cw_cases, cw-lt}
 unfoldable pub rank : ℕ → ℕ → ℕ
 rank key a = if nat_le (2 * cw_of a key) (2 ^ 128) then 2 * cw_of a key else 2 * 2 ^ 128 + 1 - 2 * cw_of a key
 
-pub rank_cases : (key a : ℕ) → ((2 * cw_of a key ≤ 2 ^ 128) × (rank key a ≡ 2 * cw_of a key)) ⊎ ((2 ^ 128 < 2 * cw_of a key) × (rank key a + 2 * cw_of a key ≡ 2 * 2 ^ 128 + 1))
+pub rank_cases : (key a : ℕ) →
+    ((2 * cw_of a key ≤ 2 ^ 128) × (rank key a ≡ 2 * cw_of a key)) ⊎ ((2 ^ 128 < 2 * cw_of a key) × (rank key a + 2 * cw_of a key ≡ 2 * 2 ^ 128 + 1))
 unfolding rank
 rank_cases key a = grind (arith, nat_tests, cw-lt a key)
 

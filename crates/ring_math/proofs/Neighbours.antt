@@ -6,7 +6,7 @@ use Rattle.std.proofs.lemmas.Bool.{cases_eq, cases_lt}
 use Rattle.std.proofs.lemmas.Bool.Decides.{nat_tests}
 use Rattle.ring_math.specs.Members.{IsClosest, IsSucc, IsPred, InRing, with}
 use Rattle.ring_math.proofs.Distances.{turn, cw-lt, turn-cw, turn-same, turn-le}
-use Rattle.ring_math.proofs.Nearness.{rank, is_nearer-rank}
+use Rattle.ring_math.proofs.Nearness.{rank, same_from_rank, is_nearer-rank}
 use Rattle.ring_math.proofs.Membership.{Contains-here, Contains-there, Contains-cases, Contains-none}
 
 -- y is the member at which f is least
@@ -28,6 +28,8 @@ least_new f P i y p le = record {
   member = inr refl;
   least = λ z h. grind (arith, p.least z);
 }
+
+-- ---- the neighbours and the closest by what is least
 
 pub succ_least : (P : ℕ → Type 0) (x y : ℕ) → IsSucc P x y → IsLeast (turn x) P y
 succ_least P x y s = record {
@@ -53,17 +55,25 @@ least_pred P x y s = record {
   last = λ z pz ne. let le : turn y x ≤ turn z x = s.least z pz in grind (arith, turn-same x, turn-cw z x, turn-cw y x, cw-lt z x);
 }
 
-pub closest_least : (P : ℕ → Type 0) (k y : ℕ) → k < 2 ^ 128 → InRing P → IsClosest P k y → IsLeast (rank k) P y
-closest_least P k y hk range s = record {
+pub closest_least : (P : ℕ → Type 0) (key y : ℕ) → key < 2 ^ 128 → InRing P → IsClosest P key y → IsLeast (rank key) P y
+closest_least P key y hk range s = record {
   member = s.member;
-  least = λ z pz. grind (arith, nat_tests, cases_eq z y, is_nearer-rank z y k (range z pz) (range y s.member) hk, s.nearest z pz);
+  least = λ z pz. grind (arith, nat_tests, cases_eq z y, is_nearer-rank z y key (range z pz) (range y s.member) hk, s.nearest z pz);
 }
 
-pub least_closest : (P : ℕ → Type 0) (k y : ℕ) → k < 2 ^ 128 → InRing P → IsLeast (rank k) P y → IsClosest P k y
-least_closest P k y hk range s = record {
+pub least_closest : (P : ℕ → Type 0) (key y : ℕ) → key < 2 ^ 128 → InRing P → IsLeast (rank key) P y → IsClosest P key y
+least_closest P key y hk range s = record {
   member = s.member;
-  nearest = λ z pz ne. let le : rank k y ≤ rank k z = s.least z pz in grind (arith, nat_tests, is_nearer-rank z y k (range z pz) (range y s.member) hk);
+  nearest = λ z pz ne. let le : rank key y ≤ rank key z = s.least z pz in grind (arith, nat_tests, is_nearer-rank z y key (range z pz) (range y s.member) hk);
 }
+
+-- a set has one closest member
+pub closest_one : (P : ℕ → Type 0) (key x y : ℕ) → InRing P → key < 2 ^ 128 → IsClosest P key x → IsClosest P key y → x ≡ y
+closest_one P key x y range hk p q =
+    least_one (rank key) P x y (closest_least P key x hk range p) (closest_least P key y hk range q)
+    (same_from_rank key x y hk (range x p.member) (range y q.member))
+
+-- ---- in a list there is one
 
 -- a list that is not empty has a member at which f is least
 least_step : (f : ℕ → ℕ) (x : ℕ) (xs : List ℕ) (y : ℕ) → IsLeast f (Contains xs) y → (w : ℕ) × IsLeast f (Contains (x ∷ xs)) w
@@ -82,8 +92,8 @@ least_in : (f : ℕ → ℕ) (xs : List ℕ) (x : ℕ) → Contains xs x → (y 
 least_in f [] x c = absurd (Contains-none x c)
 least_in f (z ∷ xs) x c = least_of f z xs
 
-pub closest_exists : (xs : List ℕ) (x k : ℕ) → InRing (Contains xs) → k < 2 ^ 128 → Contains xs x → (y : ℕ) × IsClosest (Contains xs) k y
-closest_exists xs x k range hk c = let found = least_in (rank k) xs x c in (found.0, least_closest (Contains xs) k found.0 hk range found.1)
+pub closest_exists : (xs : List ℕ) (x key : ℕ) → InRing (Contains xs) → key < 2 ^ 128 → Contains xs x → (y : ℕ) × IsClosest (Contains xs) key y
+closest_exists xs x key range hk c = let found = least_in (rank key) xs x c in (found.0, least_closest (Contains xs) key found.0 hk range found.1)
 
 pub succ_exists : (xs : List ℕ) (x : ℕ) → Contains xs x → (y : ℕ) × IsSucc (Contains xs) x y
 succ_exists xs x c = let found = least_in (turn x) xs x c in (found.0, least_succ (Contains xs) x found.0 found.1)

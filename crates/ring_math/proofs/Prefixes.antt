@@ -1,6 +1,6 @@
 -- Digits in base 16 as bits: one digit by a shift and a mask, and the digits in common by leading zeros.
 -- Two numbers have the digits before place m in common where `a / 16 ^ m ≡ b / 16 ^ m`.
-use Rattle.std.proofs.Common.{◌≡◌, ◌≢◌, ℕ, suc, zero, ◌+◌, ◌*◌, ◌^◌, ◌%◌, ◌/◌, ◌-◌, ◌<◌, ◌≤◌, refl, ◌⊎◌, sym, ◌∙◌, ap, lit<, arith, inl, inr}
+use Rattle.std.proofs.Common.{◌≡◌, ◌≢◌, ℕ, suc, zero, ◌+◌, ◌-◌, ◌*◌, ◌^◌, ◌%◌, ◌/◌, ◌<◌, ◌≤◌, refl, ◌⊎◌, sym, ◌∙◌, ap, subst, lit<, arith, inl, inr}
 use Rattle.std.specs.Prelude.{bit_and, bit_xor}
 use Rattle.std.specs.Int.Count.{count_leading_zeros}
 use Rattle.std.specs.Int.Bits.{xor_self, xor_add_and}
@@ -8,7 +8,7 @@ use Rattle.std.proofs.lemmas.Bool.{cases_eq, cases_lt}
 use Rattle.std.proofs.lemmas.Bool.Decides.{nat_tests}
 use Rattle.std.proofs.lemmas.Nat.{and_mask, and_le_l, and_le_r, pow-add, pow_pos, xor_lt, xor_shr, leading_length, div-add-mod', mod_below, div_below}
 use Rattle.std.proofs.Math.Nat.{pow-suc, pow-le-pow_right, div-div-eq-div-mul}
-use Rattle.ring_math.specs.Ring.{shared_of, shared_in_last}
+use Rattle.ring_math.specs.Ring.{digit_of, shared_of, shared_in_last}
 
 pub pow_sixteen : (k : ℕ) → 2 ^ (4 * k) ≡ 16 ^ k
 pow_sixteen zero = refl
@@ -112,3 +112,49 @@ leading_digits a b ha hb =
     let at_end = found.1 in
     let zeros = zeros_between (bit_xor a b) found.0 (xor_lt 128 a b ha hb) (omega arith) (xor_same a b found.0 found.2.alike) (λ j e. xor_other a b j (found.2.differ j e)) in
     omega arith
+
+-- ---- what `shared_of` says of digits
+
+-- the digits in common, and the place of the last of them
+shared_parts : (a b : ℕ) → a < 2 ^ 128 → b < 2 ^ 128 → (m : ℕ) × (shared_of a b + m ≡ 32) × DifferAt a b m
+unfolding shared_of
+shared_parts a b ha hb = let none : a / 16 ^ 32 ≡ b / 16 ^ 32 = omega arith in shared_differ 32 a b none
+
+pub shared_of-le : (a b : ℕ) → a < 2 ^ 128 → b < 2 ^ 128 → shared_of a b ≤ 32
+shared_of-le a b ha hb = let sum = (shared_parts a b ha hb).1 in omega arith
+
+pub shared_of-same : (a : ℕ) → a < 2 ^ 128 → shared_of a a ≡ 32
+shared_of-same a ha =
+    let found = shared_parts a a ha ha in
+    let sum = found.1 in
+    elim (last_place found.0) [
+      | inl none ↦ omega arith
+      | inr (j, e) ↦ absurd (found.2.differ j e refl)
+    ]
+
+-- the digits in common are the same
+digits_before : (a b m t : ℕ) → a / 16 ^ m ≡ b / 16 ^ m → a / 16 ^ (m + t) ≡ b / 16 ^ (m + t)
+digits_before a b m t e = rw (pow-add 16 m t, ← div-div-eq-div-mul a (16 ^ m) (16 ^ t), ← div-div-eq-div-mul b (16 ^ m) (16 ^ t)) (ap (λ n. n / 16 ^ t) e)
+
+pub digit_of-common : (a b row : ℕ) → a < 2 ^ 128 → b < 2 ^ 128 → row < shared_of a b → digit_of a row ≡ digit_of b row
+digit_of-common a b row ha hb lt =
+    let found = shared_parts a b ha hb in
+    let sum = found.1 in
+    let place : found.0 + (31 - row - found.0) ≡ 31 - row = omega arith in
+    ap (λ n. n % 16) (subst (λ j. a / 16 ^ j ≡ b / 16 ^ j) place (digits_before a b found.0 (31 - row - found.0) found.2.alike))
+
+-- different identifiers differ in the digit behind those in common, which there is
+pub digit_of-shared : (a b : ℕ) → a < 2 ^ 128 → b < 2 ^ 128 → a ≢ b → (shared_of a b < 32) × (digit_of a (shared_of a b) ≢ digit_of b (shared_of a b))
+digit_of-shared a b ha hb ne =
+    let found = shared_parts a b ha hb in
+    let sum = found.1 in
+    elim (last_place found.0) [
+      | inl none ↦ absurd (ne (whole a b found.0 none found.2.alike))
+      | inr (j, e) ↦
+          let row : 31 - shared_of a b ≡ j = omega arith in
+          let alike : a / 16 ^ suc j ≡ b / 16 ^ suc j = subst (λ m. a / 16 ^ m ≡ b / 16 ^ m) e found.2.alike in
+          (omega arith, λ same. found.2.differ j e (same_place a b j alike (rw row at same)))
+    ] where
+      whole : (x y m : ℕ) → m ≡ 0 → x / 16 ^ m ≡ y / 16 ^ m → x ≡ y
+      whole x y zero e same = omega arith
+      whole x y (suc m) e same = absurd (omega arith)

@@ -1,6 +1,6 @@
 -- Identifiers as bytes and as hexadecimal texts: what a text spells is the number of its bytes, and reading gives back what was written.
-use Rattle.std.proofs.Common.{◌≡◌, ℕ, suc, zero, ◌+◌, ◌*◌, ◌^◌, ◌%◌, ◌/◌, ◌-◌, ◌<◌, ◌≤◌, ◌≢◌, Bool, true, false, not, List, [], ◌∷◌, length, take, slice_index, Option, Some, None, Result, Ok, Err, is_some, lit<, refl, sym, ◌∙◌, ap, subst, get_or-take, length-take, arith, inl, inr}
-use Rattle.std.specs.Prelude.{position, unwrap_or}
+use Rattle.std.proofs.Common.{◌≡◌, ℕ, suc, zero, ◌+◌, ◌*◌, ◌^◌, ◌%◌, ◌/◌, ◌-◌, ◌<◌, ◌≢◌, true, false, not, List, [], ◌∷◌, length, take, slice_index, Option, Some, None, Result, Ok, Err, is_some, lit<, refl, sym, ◌∙◌, ap, subst, get_or-take, length-take, arith}
+use Rattle.std.specs.Prelude.{unwrap_or}
 use Rattle.std.specs.Int.{w128, to_be_bytes, from_be_bytes, bytes_high_first, byte_at, byte_worth, sum_through}
 use Rattle.std.specs.List.{AllPass, position_or_len}
 use Rattle.std.specs.Result.{result_unwrap_or}
@@ -9,7 +9,7 @@ use Rattle.std.proofs.Math.Nat.{pow-suc, div-one, one-le-pow}
 use Rattle.std.proofs.Math.Arith.{mod-mul}
 use Rattle.std.proofs.lemmas.Bool.Decides.{nat_tests}
 use Rattle.std.proofs.lemmas.List.Elements.{All-head, All-tail}
-use Rattle.hex.specs.Hex.{IsBytes, decode_pairs, decode_sized, digit_or_error, hex_digit_value, is_hex_digit, lower_digits, pair_value, value_at}
+use Rattle.hex.specs.Hex.{IsBytes, decode_pairs, decode_sized, digit_or_error, hex_digit_value, is_hex_digit, lower_digits, pair_value}
 use Rattle.hex.specs.declared.error.FromHexError.{FromHexError}
 use Rattle.hex.specs.declared.error.FromHexError.TheVariants.{InvalidHexCharacter}
 use Rattle.hex.proofs.HexLemmas.{decode_pairs-ok, decode_pairs-err, decode_pairs-encode_with, IsDigits-lower_digits, length-encode_with}
@@ -110,7 +110,8 @@ bad_place-none text h =
     position_or_len_is (λ c. not (is_hex_digit c)) text (length text) 0 (omega arith) (λ k lt. ap not (h k 0 lt)) (λ lt. absurd (omega arith)) in
     grind (arith, nat_tests, all)
 
-bad_place-some : (text : List ℕ) (k : ℕ) → k < length text → is_hex_digit (slice_index text k) ≡ false → AllPass is_hex_digit (take k text) → bad_place text ≡ Some k
+bad_place-some : (text : List ℕ) (k : ℕ) → k < length text → is_hex_digit (slice_index text k) ≡ false → AllPass is_hex_digit (take k text) →
+    bad_place text ≡ Some k
 bad_place-some text k lt bad h =
     let front : (j : ℕ) → j < k → is_hex_digit (slice_index text j) ≡ true = λ j before. subst IsDigit (get_or-take k text j 0 before) (h j 0 (omega (arith, length-take k text))) in
     let at : position_or_len (λ c. not (is_hex_digit c)) text ≡ k =

@@ -16,3 +16,6 @@ pub use id::{Id, id_of_name};
 pub use lists::{Bytes, BytesFault, FileIds, Ids};
 pub use memory::OutOfMemory;
 pub use text::{IdFault, id_from_hex, id_to_hex};
+
+#[cfg(test)]
+mod tests;

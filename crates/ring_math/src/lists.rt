@@ -45,7 +45,8 @@ impl From<AllocError> for BytesFault {
 }
 
 impl Bytes {
-    /// A copy of at most 4,096 bytes.
+    /// A copy of these bytes. `TooLong` comes exactly where there are more than 4,096, before memory is taken, and
+    /// `OutOfMemory` only of others.
     pub fn copy_of(alloc: Global, bytes: &[u8]) -> Result<Bytes, BytesFault>
         ensures copied { IfOk result (λ copy. copy ≡ bytes.now) }
         ensures too_long { 4096 < length bytes.now → result ≡ Err (BytesFault.TooLong (length bytes.now)) }
@@ -58,6 +59,7 @@ impl Bytes {
         Ok(Bytes { items })
     }
 
+    /// The bytes, in order.
     pub fn as_slice(&self) -> &[u8]
         ensures value { result.now ≡ self.now }
         ensures limit { length self.now ≤ 4096 }
@@ -111,6 +113,7 @@ impl Ids {
         self.items.push(id).is_ok()
     }
 
+    /// The identifiers, in the order in which they were added.
     pub fn as_slice(&self) -> &[Id]
         ensures value { result.now ≡ self.now }
         ensures limit { length self.now ≤ 17 }
@@ -168,6 +171,7 @@ impl FileIds {
         self.items.push(file).is_ok()
     }
 
+    /// The files, in the order in which they were added.
     pub fn as_slice(&self) -> &[FileId]
         ensures value { result.now ≡ self.now.files }
         ensures limit { (length self.now.files ≤ self.now.room) × (self.now.room ≤ 4096) }

@@ -26,7 +26,8 @@ pub fn id_to_hex(id: Id) -> [u8; 32]
     text
 }
 
-/// The identifier that 32 hexadecimal digits spell, in either case.
+/// The identifier that 32 hexadecimal digits spell, in either case. `Length` comes exactly where there are not 32 bytes,
+/// and `Digit` exactly where one of 32 is no digit, with the place of the first.
 pub fn id_from_hex(text: &[u8]) -> Result<Id, IdFault>
     ensures { result ≡ id_read text.now }
 {

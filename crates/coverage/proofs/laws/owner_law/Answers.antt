@@ -1,4 +1,4 @@
-use Rattle.coverage.proofs.RingSteps.{ring_one, ring_right, ring_owned}
+use Rattle.coverage.proofs.RingSteps.{ring_one, ring_right, ring_owned, ring_kept}
 use Rattle.coverage.proofs.laws.owner_law.Goals as goal
 
 pub returns-clause-one : goal.returns-clause-one
@@ -9,3 +9,6 @@ returns-clause-right c = ring_right
 
 pub returns-clause-owned : goal.returns-clause-owned
 returns-clause-owned c = ring_owned
+
+pub returns-clause-kept : goal.returns-clause-kept
+returns-clause-kept c = ring_kept

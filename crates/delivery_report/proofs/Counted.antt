@@ -1,0 +1,10 @@
+-- How many pass a test, of a list that was mapped and of one list behind another.
+use Rattle.std.proofs.Common.{◌≡◌, ◌+◌, Bool, cond, List, [], ◌∷◌, map, refl, sym, ◌∙◌, ap}
+use Rattle.std.specs.List.{count_by}
+use Rattle.std.proofs.lemmas.List.Sums.{sum_by-cons}
+
+pub count_by-map : {A B : Type 0} (p : B → Bool) (f : A → B) (xs : List A) → count_by (λ x. p (f x)) xs ≡ count_by p (map f xs)
+count_by-map p f [] = refl
+count_by-map p f (x ∷ xs) =
+    sum_by-cons (λ y. cond (p (f y)) 1 0) x xs ∙ ap (λ n. cond (p (f x)) 1 0 + n) (count_by-map p f xs) ∙
+    sym (sum_by-cons (λ y. cond (p y) 1 0) (f x) (map f xs))

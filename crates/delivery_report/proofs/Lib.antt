@@ -1,0 +1,5 @@
+mod Closed
+mod Counted
+mod Found
+mod Marks
+mod Steps

@@ -1,0 +1,5 @@
+pub mod Answers
+pub mod Deliveries
+pub mod Names
+pub mod Report
+pub mod Tally

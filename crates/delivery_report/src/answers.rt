@@ -1,0 +1,125 @@
+//! How commands were closed.
+
+ghost use Rattle.std.specs.Prelude.{◌≡◌, ◌++◌, codes, decimal, OnOk};
+ghost use Rattle.delivery_report.specs.Answers.{name_of, reply_text, why_text, own_text, answer_text};
+
+use crate::names::Names;
+use crate::text::Text;
+use ring_math::{Id, OutOfMemory};
+use wire_msg::{Answer, Own, Reply, Why};
+
+pub(crate) fn answer(text: &mut Text, names: &Names, answer: &Answer) -> Result<(), OutOfMemory>
+    ensures { OnOk result (text.new ≡ text.old ++ answer_text names.now answer.now) }
+{
+    match answer {
+        Answer::Reply(reply) => reply_of(text, names, reply),
+        Answer::Joined { left, right } => {
+            with_other(text, names, b"joined between ", *left, b" and ", *right)
+        }
+        Answer::Denied { node, why } => {
+            names.write_after(text, b"denied by ", *node)?;
+            text.put(b" ")?;
+            why_of(text, names, why)
+        }
+        Answer::Stopped { node, own } => {
+            names.write_after(text, b"denied by ", *node)?;
+            text.put(b" ")?;
+            own_of(text, own)
+        }
+        Answer::GaveUp => text.put(b"gave up"),
+        Answer::NothingToGiveUp => text.put(b"nothing to give up"),
+    }
+}
+
+fn reply_of(text: &mut Text, names: &Names, reply: &Reply) -> Result<(), OutOfMemory>
+    ensures { OnOk result (text.new ≡ text.old ++ reply_text names.now reply.now) }
+{
+    match reply {
+        Reply::Delivered { node, hops } => {
+            with_number(text, names, b"delivered by ", *node, b" hops ", *hops)
+        }
+        Reply::Stored { holders } => {
+            text.put(b"stored at")?;
+            names.write_all(text, holders.as_slice())
+        }
+        Reply::Found { node, bytes } => {
+            names.write_after(text, b"found by ", *node)?;
+            text.put(b" ")?;
+            text.hex(bytes.as_slice())
+        }
+        Reply::NotFound { node } => names.write_after(text, b"missing by ", *node),
+        Reply::Collision { node } => names.write_after(text, b"collision by ", *node),
+        Reply::TooFew { node, known } => {
+            with_number(text, names, b"too few by ", *node, b" known ", *known)
+        }
+        Reply::Busy { node, joiner } => with_other(
+            text,
+            names,
+            b"busy by ",
+            *node,
+            b" for ",
+            *joiner,
+        ),
+        Reply::NotReady { node } => names.write_after(text, b"not ready by ", *node),
+        Reply::Full { node } => names.write_after(text, b"full by ", *node),
+        Reply::Gone { node } => names.write_after(text, b"gone by ", *node),
+        Reply::Reclaimed { node } => names.write_after(text, b"reclaimed by ", *node),
+    }
+}
+
+fn why_of(text: &mut Text, names: &Names, why: &Why) -> Result<(), OutOfMemory>
+    ensures { OnOk result (text.new ≡ text.old ++ why_text names.now why.now) }
+{
+    match why {
+        Why::Busy { joiner } => names.write_after(text, b"busy with ", *joiner),
+        Why::Moved { left, right } => with_other(
+            text,
+            names,
+            b"moved to ",
+            *left,
+            b" and ",
+            *right,
+        ),
+        Why::NotReady => text.put(b"not ready"),
+    }
+}
+
+fn own_of(text: &mut Text, own: &Own) -> Result<(), OutOfMemory>
+    ensures { OnOk result (text.new ≡ text.old ++ own_text own.now) }
+{
+    text.put(match own {
+        Own::GivenUp => b"given up",
+        Own::Already => b"already",
+        Own::Spent => b"spent",
+    })
+}
+
+/// A word and a node, then a word and another node.
+fn with_other(
+    text: &mut Text,
+    names: &Names,
+    first_word: &[u8],
+    first: Id,
+    second_word: &[u8],
+    second: Id,
+) -> Result<(), OutOfMemory>
+    ensures { OnOk result (text.new ≡ text.old ++ (first_word.now ++ name_of names.now first ++ second_word.now ++ name_of names.now second)) }
+{
+    names.write_after(text, first_word, first)?;
+    names.write_after(text, second_word, second)
+}
+
+/// A word and a node, then a word and a number.
+fn with_number(
+    text: &mut Text,
+    names: &Names,
+    word: &[u8],
+    node: Id,
+    number_word: &[u8],
+    number: u16,
+) -> Result<(), OutOfMemory>
+    ensures { OnOk result (text.new ≡ text.old ++ (word.now ++ name_of names.now node ++ number_word.now ++ decimal number)) }
+{
+    names.write_after(text, word, node)?;
+    text.number_after(number_word, u64::from(number))
+}

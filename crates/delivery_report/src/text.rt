@@ -1,0 +1,92 @@
+//! Texts that grow at their end.
+
+ghost use Rattle.std.specs.Prelude.{◌≡◌, ◌++◌, [], decimal, OnOk};
+ghost use Rattle.ring_math.specs.Texts.{text_of};
+ghost use Rattle.delivery_report.specs.Answers.{bytes_text};
+
+use itoa::Buffer;
+use ring_math::{Id, OutOfMemory, id_to_hex};
+use std::alloc::Global;
+use std::marker::Model;
+use wire_msg::Frame;
+
+/// A text, seen as its bytes.
+#[derive(Drop)]
+pub(crate) struct Text {
+    alloc: Global,
+    bytes: Vec<u8>,
+}
+
+impl Model for Text {
+    ghost use Rattle.std.specs.Prelude.{ℕ, List};
+
+    ghost Value = { List ℕ };
+
+    ghost view = { λ a. a.bytes.items };
+}
+
+impl Text {
+    pub(crate) fn new(alloc: Global) -> Text
+        ensures { result ≡ [] }
+    {
+        Text {
+            alloc,
+            bytes: Vec::new(alloc),
+        }
+    }
+
+    pub(crate) fn put(&mut self, word: &[u8]) -> Result<(), OutOfMemory>
+        ensures { OnOk result (self.new ≡ self.old ++ word.now) }
+    {
+        self.bytes.extend_from_slice(word)?;
+        Ok(())
+    }
+
+    /// A number in decimal.
+    pub(crate) fn number(&mut self, number: u64) -> Result<(), OutOfMemory>
+        ensures { OnOk result (self.new ≡ self.old ++ decimal number) }
+    {
+        let mut digits = Buffer::new();
+        self.put(digits.format(number).as_bytes())
+    }
+
+    /// A word and a number.
+    pub(crate) fn number_after(&mut self, word: &[u8], number: u64) -> Result<(), OutOfMemory>
+        ensures { OnOk result (self.new ≡ self.old ++ (word.now ++ decimal number)) }
+    {
+        self.put(word)?;
+        self.number(number)
+    }
+
+    /// The 32 digits of an identifier.
+    pub(crate) fn id(&mut self, id: Id) -> Result<(), OutOfMemory>
+        ensures { OnOk result (self.new ≡ self.old ++ text_of id) }
+    {
+        self.put(&id_to_hex(id))
+    }
+
+    /// A word and an identifier.
+    pub(crate) fn id_after(&mut self, word: &[u8], id: Id) -> Result<(), OutOfMemory>
+        ensures { OnOk result (self.new ≡ self.old ++ (word.now ++ text_of id)) }
+    {
+        self.put(word)?;
+        self.id(id)
+    }
+
+    /// Bytes in hexadecimal, a dash where there are none.
+    pub(crate) fn hex(&mut self, bytes: &[u8]) -> Result<(), OutOfMemory>
+        ensures { OnOk result (self.new ≡ self.old ++ bytes_text bytes.now) }
+    {
+        if bytes.is_empty() {
+            return self.put(b"-");
+        }
+        let digits = hex::encode(self.alloc, bytes)?;
+        self.put(digits.as_bytes())
+    }
+
+    pub(crate) fn into_frame(self) -> Frame
+        ensures { result ≡ self }
+    {
+        Frame::from(self.bytes)
+    }
+}

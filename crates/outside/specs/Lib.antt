@@ -1,0 +1,10 @@
+pub mod Calls
+pub mod Feed
+pub mod MemorySink
+pub mod MemorySource
+pub mod Reading
+pub mod Rose
+pub mod Sink
+pub mod Source
+pub mod Told
+pub mod Writing

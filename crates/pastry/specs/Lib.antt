@@ -1,0 +1,4 @@
+pub mod Solo
+pub mod Schedule
+pub mod Turns
+pub mod Top

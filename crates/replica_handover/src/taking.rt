@@ -1,0 +1,147 @@
+//! What a joiner takes over, and whether it has all of it.
+
+ghost use Rattle.std.specs.Prelude.{◌≡◌, IfOk, None, option_copied};
+ghost use Rattle.replica_handover.specs.Taken.{kept, is_done, is_complete};
+
+use file_store::FileStore;
+use ring_math::{FileId, FileIds, OutOfMemory};
+use std::alloc::Global;
+use std::marker::Model;
+
+/// What a neighbour hands over with its lease: the files of its manifest, and its tombstones.
+#[derive(Drop)]
+pub struct Pledge {
+    manifest: FileIds,
+    tombs: FileIds,
+}
+
+impl Model for Pledge {
+    ghost use Rattle.coverage.specs.GapFiles.{Lists};
+
+    ghost Value = { Lists };
+
+    ghost view = { λ a. record { manifest = a.manifest.files; tombs = a.tombs.files } };
+}
+
+impl Pledge {
+    pub fn new(manifest: FileIds, tombs: FileIds) -> Pledge
+        ensures { result ≡ record { manifest = manifest.files; tombs = tombs.files } }
+    {
+        Pledge { manifest, tombs }
+    }
+
+    pub fn manifest(&self) -> &[FileId]
+        ensures { result.now ≡ self.now.manifest }
+    {
+        self.manifest.as_slice()
+    }
+
+    pub fn tombs(&self) -> &[FileId]
+        ensures { result.now ≡ self.now.tombs }
+    {
+        self.tombs.as_slice()
+    }
+
+    /// The same lists in memory of their own.
+    pub fn copy(&self, alloc: Global) -> Result<Pledge, OutOfMemory>
+        ensures { IfOk result (λ copy. copy ≡ self.now) }
+    {
+        let manifest = self.manifest.copy(alloc)?;
+        let tombs = self.tombs.copy(alloc)?;
+        Ok(Pledge { manifest, tombs })
+    }
+}
+
+/// The pledges that a joiner waits for, one of each side. The first of a side is kept.
+#[derive(Drop)]
+pub struct Taking {
+    left: Option<Pledge>,
+    right: Option<Pledge>,
+}
+
+impl Model for Taking {
+    ghost use Rattle.replica_handover.specs.Taken.{Taken};
+
+    ghost Value = { Taken };
+
+    ghost view = { λ a. record { left = a.left; right = a.right } };
+}
+
+impl Taking {
+    /// Neither side has pledged yet.
+    pub fn new() -> Taking
+        ensures { result ≡ record { left = None; right = None } }
+    {
+        Taking {
+            left: None,
+            right: None,
+        }
+    }
+
+    /// Keeps the lists of the left side, unless it has some. It takes no memory.
+    pub fn expect_left(&mut self, manifest: FileIds, tombs: FileIds)
+        ensures { self.new ≡ record self.old { left = kept self.old.left (record { manifest = manifest.files; tombs = tombs.files }) } }
+    {
+        if self.left.is_none() {
+            self.left = Some(Pledge { manifest, tombs });
+        }
+    }
+
+    /// Keeps the lists of the right side, unless it has some. It takes no memory.
+    pub fn expect_right(&mut self, manifest: FileIds, tombs: FileIds)
+        ensures { self.new ≡ record self.old { right = kept self.old.right (record { manifest = manifest.files; tombs = tombs.files }) } }
+    {
+        if self.right.is_none() {
+            self.right = Some(Pledge { manifest, tombs });
+        }
+    }
+
+    /// What the left side pledged.
+    pub fn left(&self) -> Option<&Pledge>
+        ensures { option_copied result ≡ self.now.left }
+    {
+        self.left.as_ref()
+    }
+
+    /// What the right side pledged.
+    pub fn right(&self) -> Option<&Pledge>
+        ensures { option_copied result ≡ self.now.right }
+    {
+        self.right.as_ref()
+    }
+
+    /// Whether both sides are kept, each file of a manifest has an entry, and each file of a tombs list is a tombstone.
+    pub fn complete(&self, store: &FileStore) -> bool
+        ensures { result ≡ is_complete store.now.files self.now }
+    {
+        is_kept(&self.left, store) && is_kept(&self.right, store)
+    }
+
+    /// The same pledges in memory of their own.
+    pub fn copy(&self, alloc: Global) -> Result<Taking, OutOfMemory>
+        ensures { IfOk result (λ copy. copy ≡ self.now) }
+    {
+        let left = copy_of(alloc, &self.left)?;
+        let right = copy_of(alloc, &self.right)?;
+        Ok(Taking { left, right })
+    }
+}
+
+/// Whether the side has pledged, and the store has all of it.
+fn is_kept(side: &Option<Pledge>, store: &FileStore) -> bool
+    ensures { result ≡ is_done store.now.files side.now }
+{
+    match side {
+        Some(pledge) => store.has_lists(pledge.manifest(), pledge.tombs()),
+        None => false,
+    }
+}
+
+fn copy_of(alloc: Global, side: &Option<Pledge>) -> Result<Option<Pledge>, OutOfMemory>
+    ensures { IfOk result (λ copy. copy ≡ side.now) }
+{
+    match side {
+        Some(pledge) => Ok(Some(pledge.copy(alloc)?)),
+        None => Ok(None),
+    }
+}

@@ -1,0 +1,12 @@
+pub mod Plain
+pub mod Tallies
+pub mod Rules
+pub mod Spelling
+pub mod Lines
+pub mod Words
+pub mod Forms
+pub mod Checks
+pub mod Effects
+pub mod Grammar
+pub mod Outcome
+pub mod Lone

@@ -1,0 +1,25 @@
+//! The scenario language: which bytes are which scenario, and for all other bytes the one fault with its line and place.
+#![tactic(auto)]
+
+mod action;
+mod builder;
+mod fault;
+mod form;
+mod lines;
+mod name;
+mod node;
+mod read;
+mod scenario;
+mod spelling;
+mod tally;
+#[cfg(test)]
+mod tests;
+mod words;
+
+pub use action::{Action, What};
+pub use builder::ScenarioBuilder;
+pub use fault::LineFault;
+pub use name::Name;
+pub use node::{FileLine, NodeLine};
+pub use read::read_scenario;
+pub use scenario::Scenario;

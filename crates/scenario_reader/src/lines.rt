@@ -1,0 +1,17 @@
+//! The lines of an input.
+
+ghost use Rattle.std.specs.Prelude.{◌≡◌, ◌<◌, ◌∷◌, length};
+ghost use Rattle.scenario_reader.specs.Lines.{lines_of};
+
+use memchr::memchr;
+
+/// The first line, without its end, and what stands behind it.
+pub(crate) fn split_line(text: &[u8]) -> (&[u8], &[u8])
+    requires { 0 < length text.now }
+    ensures { lines_of text.now ≡ result.0.now ∷ lines_of result.1.now }
+{
+    match memchr(b'\n', text) {
+        Some(end) => (&text[..end], &text[end + 1..]),
+        None => (text, &text[text.len()..]),
+    }
+}

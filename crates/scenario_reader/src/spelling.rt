@@ -1,0 +1,65 @@
+//! How names and numbers are spelled.
+
+ghost use Rattle.std.specs.Prelude.{◌≡◌, ◌+◌, ◌*◌, ◌^◌, ◌<◌, IsTrue, SomeIff};
+ghost use Rattle.std.specs.Char.{digit_value, is_ascii_digit};
+ghost use Rattle.std.specs.List.{list_all};
+ghost use Rattle.scenario_reader.specs.Spelling.{is_name_byte, is_name, is_decimal, number_of};
+
+/// Whether these bytes are 1 to 32 letters, digits or underscores.
+pub(crate) fn is_name(text: &[u8]) -> bool
+    ensures { result ≡ is_name text.now }
+{
+    !text.is_empty() && text.len() <= 32 && are_name_bytes(text)
+}
+
+fn are_name_bytes(text: &[u8]) -> bool
+    ensures { result ≡ list_all is_name_byte text.now }
+{
+    text.iter().all(|byte| is_name_byte(*byte))
+}
+
+#[tactic(auto, unfolding(crate::specs::Spelling::is_name_byte))]
+fn is_name_byte(byte: u8) -> bool
+    ensures { result ≡ is_name_byte byte }
+{
+    byte.is_ascii_alphanumeric() || byte == b'_'
+}
+
+/// The number that a word spells, None where it spells none or one above 18,446,744,073,709,551,615.
+pub(crate) fn number(text: &[u8]) -> Option<u64>
+    ensures { result ≡ number_of text.now }
+{
+    if !is_decimal(text) {
+        return None;
+    }
+    let mut value: u64 = 0;
+    for digit in text {
+        value = with_digit(value, *digit)?;
+    }
+    Some(value)
+}
+
+/// The number with one more digit behind it, None where it is above 18,446,744,073,709,551,615.
+fn with_digit(number: u64, digit: u8) -> Option<u64>
+    requires { IsTrue (is_ascii_digit digit) }
+    ensures { SomeIff result (number * 10 + digit_value digit < 2 ^ 64) (number * 10 + digit_value digit) }
+{
+    number.checked_mul(10)?.checked_add(u64::from(digit - b'0'))
+}
+
+/// Whether these bytes are `0`, or decimal digits that do not begin with 0.
+fn is_decimal(text: &[u8]) -> bool
+    ensures { result ≡ is_decimal text.now }
+{
+    match text {
+        [] => false,
+        [digit] => digit.is_ascii_digit(),
+        [first, ..] => *first != b'0' && are_digits(text),
+    }
+}
+
+fn are_digits(text: &[u8]) -> bool
+    ensures { result ≡ list_all is_ascii_digit text.now }
+{
+    text.iter().all(|byte| byte.is_ascii_digit())
+}

@@ -1,0 +1,13 @@
+pub mod Whole
+pub mod Lists
+pub mod Sized
+pub mod Written
+pub mod Numbers
+pub mod Places
+pub mod Chunks
+pub mod Matching
+pub mod FieldsAgain
+pub mod FieldsTaken
+pub mod Messages
+pub mod Frames
+pub mod Refusals

@@ -1,0 +1,8 @@
+pub mod Fields
+pub mod Kinds
+pub mod Spelling
+pub mod Layouts
+pub mod Reading
+pub mod Views
+pub mod Sizes
+pub mod Writing

@@ -1,0 +1,372 @@
+use super::*;
+use ring_math::{Bytes, FileId, FileIds, Id, Ids};
+use std::alloc::Global;
+use std::process::Abort;
+use std::test::Fail;
+use wire_msg::{Copies, Envelope, Message, Reply, Why};
+
+const TEN: Id = Id(0x10000000000000000000000000000000);
+
+const THIRTY: Id = Id(0x30000000000000000000000000000000);
+
+const FILE: FileId = FileId([0xf1; 20]);
+
+/// Announce from 10~ to 30~ with stamp 5.
+const ANNOUNCE: [u8; 46] = [
+    1, 0x12, 0, 0, 0, 0x28, // version, kind and length
+    0x10, 0, 0, 0, 0, 0, 0, 0, 0, 0, 0, 0, 0, 0, 0, 0, // sender
+    0x30, 0, 0, 0, 0, 0, 0, 0, 0, 0, 0, 0, 0, 0, 0, 0, // receiver
+    0, 0, 0, 0, 0, 0, 0, 5, // stamp
+];
+
+fn sent(message: Message) -> Envelope {
+    Envelope {
+        sender: TEN,
+        receiver: THIRTY,
+        stamp: 5,
+        message,
+    }
+}
+
+fn refuses(rt: &impl Abort, alloc: Global, bytes: &[u8], fault: FrameFault) {
+    assert_eq!(rt; decode(alloc, bytes).err(), Some(fault), "{bytes:?}");
+    assert!(rt; !is_frame(bytes), "{bytes:?}");
+}
+
+#[test]
+fn frame_examples(rt: HostRuntime) -> Result<(), Fail> {
+    let alloc = rt.alloc();
+    let frame = encode(alloc, &sent(Message::Announce))?;
+    assert_eq!(rt; frame.as_slice(), ANNOUNCE.as_slice());
+    assert!(rt; is_frame(&ANNOUNCE));
+    let envelope = decode(alloc, &ANNOUNCE)?;
+    assert_eq!(rt;
+        (envelope.sender, envelope.receiver, envelope.stamp),
+        (TEN, THIRTY, 5)
+    );
+    assert!(rt; matches!(&envelope.message, Message::Announce));
+
+    let mut longer = ANNOUNCE.as_slice().to_vec(alloc)?;
+    longer.push(0)?;
+    refuses(
+        &rt,
+        alloc,
+        &longer,
+        FrameFault::Length {
+            stated: 40,
+            found: 41,
+        },
+    );
+    for (place, byte, fault) in [
+        (1, 0x15, FrameFault::Kind { found: 21 }),
+        (0, 2, FrameFault::Kind { found: 18 }),
+        (0, 3, FrameFault::Version { found: 3 }),
+    ] {
+        let mut bytes = ANNOUNCE;
+        if let Some(changed) = bytes.get_mut(place) {
+            *changed = byte;
+        }
+        refuses(&rt, alloc, &bytes, fault);
+    }
+    Ok(())
+}
+
+#[test]
+fn frame_prefixes(rt: HostRuntime) {
+    for n in 0..ANNOUNCE.len() {
+        let fault = if n < 6 {
+            FrameFault::Short { need: 6 }
+        } else {
+            FrameFault::Length {
+                stated: 40,
+                found: n - 6,
+            }
+        };
+        refuses(&rt, rt.alloc(), &ANNOUNCE[..n], fault);
+    }
+}
+
+fn no_files(alloc: Global) -> Result<FileIds, Fail> {
+    Ok(FileIds::with_room(alloc, 0)?)
+}
+
+/// So many files.
+fn files(alloc: Global, n: u16) -> Result<FileIds, Fail> {
+    if n > 4096 {
+        return Err("a list has at most 4,096 files")?;
+    }
+    let mut files = FileIds::with_room(alloc, usize::from(n))?;
+    for i in 0..n {
+        let [high, low] = i.to_be_bytes();
+        let mut file = [0x5a; 20];
+        file[0] = high;
+        file[19] = low;
+        let _has_room = files.push(FileId(file));
+    }
+    Ok(files)
+}
+
+/// As many identifiers as a list takes.
+fn all_ids(alloc: Global) -> Result<Ids, Fail> {
+    let mut ids = Ids::with_room(alloc)?;
+    for i in 0..17 {
+        let _has_room = ids.push(Id(i));
+    }
+    Ok(ids)
+}
+
+#[test]
+fn grants_and_copies(rt: HostRuntime) -> Result<(), Fail> {
+    let alloc = rt.alloc();
+    let grant = Message::Grant {
+        attempt: 1,
+        manifest: no_files(alloc)?,
+        tombs: no_files(alloc)?,
+    };
+    let frame = encode(alloc, &sent(grant))?;
+    assert!(rt; frame.as_slice().starts_with(&[1, 0x0d, 0, 0, 0, 0x2e]));
+    assert!(rt; frame.as_slice().ends_with(&[0, 0, 0, 1, 0, 0]));
+    assert_eq!(rt; frame.as_slice().len(), 52);
+
+    let grant = Message::Grant {
+        attempt: 1,
+        manifest: no_files(alloc)?,
+        tombs: files(alloc, 1)?,
+    };
+    let frame = encode(alloc, &sent(grant))?;
+    assert!(rt; frame.as_slice().starts_with(&[2, 0x0d, 0, 0, 0, 0x44]));
+    assert_eq!(rt; frame.as_slice().len(), 74);
+    let fields = [0, 0, 0, 1, 0, 0, 0, 1];
+    assert!(rt; frame.as_slice().get(46..54) == Some(fields.as_slice()));
+
+    let mut bytes = frame.as_slice().to_vec(alloc)?;
+    if let Some(count) = bytes.get_mut(53) {
+        *count = 0;
+    }
+    refuses(&rt, alloc, &bytes, FrameFault::Range { place: 52 });
+    Ok(())
+}
+
+fn insert(alloc: Global, bytes: &[u8]) -> Result<Message, Fail> {
+    Ok(Message::Insert {
+        origin: TEN,
+        number: 1,
+        hops: 2,
+        file: FILE,
+        copies: Copies::new(9).ok_or("9 copies are allowed")?,
+        bytes: Bytes::copy_of(alloc, bytes)?,
+    })
+}
+
+#[test]
+fn parts_of_an_insert(rt: HostRuntime) -> Result<(), Fail> {
+    let alloc = rt.alloc();
+    let frame = encode(alloc, &sent(insert(alloc, &[7])?))?;
+    // Places and their bytes, and what is refused then. The copies stand at place 92, the length of the bytes at 93.
+    for (place, byte, fault) in [
+        (92, 0, FrameFault::Range { place: 92 }),
+        (92, 10, FrameFault::Range { place: 92 }),
+        (93, 0x11, FrameFault::Range { place: 93 }),
+        (94, 2, FrameFault::Short { need: 97 }),
+        (94, 0, FrameFault::Range { place: 95 }),
+    ] {
+        let mut bytes = frame.as_slice().to_vec(alloc)?;
+        if let Some(changed) = bytes.get_mut(place) {
+            *changed = byte;
+        }
+        refuses(&rt, alloc, &bytes, fault);
+    }
+    Ok(())
+}
+
+/// A reply with this tag.
+fn reply(alloc: Global, tag: u8) -> Result<Reply, Fail> {
+    let node = TEN;
+    Ok(match tag {
+        1 => Reply::Delivered { node, hops: 65535 },
+        2 => Reply::Stored {
+            holders: all_ids(alloc)?,
+        },
+        3 => Reply::Found {
+            node,
+            bytes: Bytes::copy_of(alloc, &[1; 4096])?,
+        },
+        4 => Reply::NotFound { node },
+        5 => Reply::Collision { node },
+        6 => Reply::TooFew { node, known: 2 },
+        7 => Reply::Busy {
+            node,
+            joiner: THIRTY,
+        },
+        8 => Reply::NotReady { node },
+        9 => Reply::Full { node },
+        10 => Reply::Gone { node },
+        _ => Reply::Reclaimed { node },
+    })
+}
+
+/// A why with this tag.
+fn why(tag: u8) -> Why {
+    match tag {
+        1 => Why::Busy { joiner: TEN },
+        2 => Why::Moved {
+            left: TEN,
+            right: THIRTY,
+        },
+        _ => Why::NotReady,
+    }
+}
+
+/// A message of this kind, with this tag where it has a why or a reply, and lists as long as they may be.
+fn message(alloc: Global, kind: u8, tag: u8) -> Result<Message, Fail> {
+    let (origin, number, hops, attempt, file) = (TEN, 1, 2, 7, FILE);
+    Ok(match kind {
+        1 => Message::Lookup {
+            origin,
+            number,
+            key: THIRTY,
+            hops,
+        },
+        2 => Message::LookupReply {
+            number,
+            reply: reply(alloc, tag)?,
+        },
+        3 => insert(alloc, &[0xab; 4096])?,
+        4 => Message::InsertReply {
+            number,
+            reply: reply(alloc, tag)?,
+        },
+        5 => Message::Fetch {
+            origin,
+            number,
+            hops,
+            file,
+        },
+        6 => Message::FetchReply {
+            number,
+            reply: reply(alloc, tag)?,
+        },
+        7 => Message::JoinRequest {
+            joiner: TEN,
+            attempt,
+            hops,
+        },
+        8 => Message::JoinReply {
+            attempt,
+            members: all_ids(alloc)?,
+        },
+        9 => Message::JoinRefuse {
+            attempt,
+            why: why(tag),
+        },
+        10 => Message::Probe { attempt },
+        11 => Message::ProbeReply {
+            attempt,
+            members: all_ids(alloc)?,
+        },
+        12 => Message::LeaseRequest {
+            attempt,
+            left: TEN,
+            right: THIRTY,
+        },
+        13 => Message::Grant {
+            attempt,
+            manifest: files(alloc, 4096)?,
+            tombs: files(alloc, 4096)?,
+        },
+        14 => Message::Deny {
+            attempt,
+            why: why(tag),
+        },
+        15 => Message::Handover {
+            file,
+            bytes: Bytes::copy_of(alloc, b"abc")?,
+        },
+        16 => Message::Release { attempt },
+        17 => Message::Confirm { attempt },
+        18 => Message::Announce,
+        19 => Message::Replicate {
+            origin,
+            number,
+            file,
+            bytes: Bytes::copy_of(alloc, b"")?,
+        },
+        20 => Message::ReplicaAck {
+            origin,
+            number,
+            file,
+        },
+        21 => Message::Reclaim {
+            origin,
+            number,
+            hops,
+            file,
+        },
+        _ => Message::ReclaimReply {
+            number,
+            reply: reply(alloc, tag)?,
+        },
+    })
+}
+
+/// Kind, tag of its why or reply, version, and the bytes behind the length.
+const FRAMES: [(u8, u8, u8, u32); 36] = [
+    (1, 0, 1, 82),
+    (2, 1, 1, 67),
+    (2, 7, 1, 81),
+    (2, 8, 1, 65),
+    (2, 10, 2, 65),
+    (2, 11, 2, 65),
+    (3, 0, 1, 4185),
+    (4, 2, 1, 322),
+    (4, 5, 1, 65),
+    (4, 6, 1, 67),
+    (4, 9, 1, 65),
+    (4, 10, 2, 65),
+    (5, 0, 1, 86),
+    (6, 3, 1, 4163),
+    (6, 4, 1, 65),
+    (6, 10, 2, 65),
+    (6, 11, 2, 65),
+    (7, 0, 1, 62),
+    (8, 0, 1, 317),
+    (9, 1, 1, 61),
+    (9, 2, 1, 77),
+    (10, 0, 1, 44),
+    (11, 0, 1, 317),
+    (12, 0, 1, 76),
+    (13, 0, 2, 163888),
+    (14, 3, 1, 45),
+    (15, 0, 1, 65),
+    (16, 0, 1, 44),
+    (17, 0, 1, 44),
+    (18, 0, 1, 40),
+    (19, 0, 1, 86),
+    (20, 0, 1, 84),
+    (21, 0, 2, 86),
+    (22, 1, 2, 67),
+    (22, 9, 2, 65),
+    (22, 11, 2, 65),
+];
+
+#[test]
+fn there_and_back(rt: HostRuntime) -> Result<(), Fail> {
+    let alloc = rt.alloc();
+    for (kind, tag, version, length) in FRAMES {
+        let frame = encode(alloc, &sent(message(alloc, kind, tag)?))?;
+        assert!(rt;
+            frame.as_slice().starts_with(&[version, kind]),
+            "kind {kind}"
+        );
+        assert_eq!(rt;
+            frame.as_slice().get(2..6),
+            Some(length.to_be_bytes().as_slice()),
+            "kind {kind}"
+        );
+        assert!(rt; is_frame(frame.as_slice()), "kind {kind}");
+        let back = decode(alloc, frame.as_slice())?;
+        let again = encode(alloc, &back)?;
+        assert_eq!(rt; again.as_slice(), frame.as_slice(), "kind {kind}");
+    }
+    Ok(())
+}
