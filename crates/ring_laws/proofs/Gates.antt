@@ -194,6 +194,7 @@ has_side g w x h k side from a n l r fl fr lists e f (right, has) = record {
 } where
   between : (has.lease.gate.left ≡ l) × (has.lease.gate.right ≡ r)
   between = lease_ends g w x a n l r fl fr right from lists k e has
+
   ends : (side : Bool) → end_in (not side) has.lease.gate ≡ pick (not side) l r
   ends true = between.0
   ends false = between.1

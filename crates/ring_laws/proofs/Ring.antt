@@ -3,7 +3,7 @@ use Rattle.std.proofs.Common.{◌≡◌, inl, inr, ℕ, Bool, true, false, not, 
 use Rattle.std.proofs.lemmas.Bool.Decides.{Decides-eqb}
 use Rattle.ring_math.specs.Members.{with}
 use Rattle.coverage.specs.Links.{Side, HasSide, IsRing}
-use Rattle.coverage.proofs.RingSteps.{ring_founded, ring_stays, ring_joined}
+use Rattle.coverage.proofs.RingSteps.{ring_founded, ring_stays, ring_joined, Joins}
 use Rattle.coverage.specs.GapFiles.{Lists}
 use Rattle.wire_msg.specs.Words.{Message, LeaseRequest, Release, Confirm}
 use Rattle.overlay_rules.specs.declared.entry.Entry.{Entry}
@@ -102,18 +102,7 @@ ring_grown : (g : Setting) (w : World) (e : Entry) (x : ℕ) (i : Input) (a n l 
     (step (w.states x) i).state.left_gate ≡ (w.states x).left_gate → (step (w.states x) i).state.right_gate ≡ (w.states x).right_gate →
     IsRing (ReadyIn (state_at w.states x (step (w.states x) i).state)) (attempt_in (state_at w.states x (step (w.states x) i).state)) (sides_in (state_at w.states x (step (w.states x) i).state))
 ring_grown g w e x i a n l r fl fr left right set h k q t was now has_left has_right same_left same_right =
-    ring_joined P (ReadyIn after) (attempt_in w.states) (attempt_in after) (sides_in w.states) (sides_in after) x a (holder_of l r) q.ring (record {
-      bound = in_ring g set x t.member;
-      absent = absent;
-      there = λ z. there z;
-      back = λ z ready. state_at-each (λ y (s : State). is_ready s.phase ≡ true → with P x y) w.states x o.state z (λ _. inr refl) (λ p. inl p) ready;
-      attempt = ap (λ (s : State). attempt_of s.phase) here ∙ ap attempt_of now;
-      grows = λ z. attempt_grows w.states x i z;
-      kept = λ z p. Moves-settled _ _ (moved w.states x i z) p;
-      held = held;
-      link = link;
-      gate = gate;
-    }) others mine where
+    ring_joined (sides_in after) q.ring joins others mine where
       o : Outcome
       o = step (w.states x) i
 
@@ -160,6 +149,20 @@ ring_grown g w e x i a n l r fl fr left right set h k q t was now has_left has_r
 
       mine : (side : Bool) → sides_in after x side ≡ record { link = holder_of l r (not side); gate = None }
       mine side = ap (λ s. side_of s side) here ∙ new_side side
+
+      joins : Joins P (ReadyIn after) (attempt_in w.states) (attempt_in after) (sides_in w.states) x a (holder_of l r)
+      joins = record {
+        bound = in_ring g set x t.member;
+        absent = absent;
+        there = λ z. there z;
+        back = λ z ready. state_at-each (λ y (s : State). is_ready s.phase ≡ true → with P x y) w.states x o.state z (λ _. inr refl) (λ p. inl p) ready;
+        attempt = ap (λ (s : State). attempt_of s.phase) here ∙ ap attempt_of now;
+        grows = λ z. attempt_grows w.states x i z;
+        kept = λ z p. Moves-settled _ _ (moved w.states x i z) p;
+        held = held;
+        link = link;
+        gate = gate;
+      }
 
 -- ---- one step keeps the ring
 
