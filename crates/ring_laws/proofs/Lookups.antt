@@ -108,6 +108,7 @@ module _ (g : Setting) (w v : World) (m : Later g w v) where
   carries_later to (Insert o n hops file copies bytes) h = WasCommanded-later o n _ h
   carries_later to (Fetch o n hops file) h = WasCommanded-later o n _ h
   carries_later to (Reclaim o n hops file) h = WasCommanded-later o n _ h
+  carries_later to (Replicate o n file bytes) h = (h.0, WasCommanded-later o n _ h.1)
   carries_later to _ h = tt
 
   replied_later : (to : ℕ) (s : Message) → IsReplied w to s → IsReplied v to s

@@ -56,7 +56,7 @@ Carries Q L to (Handover file bytes) = Unit {0}
 Carries Q L to (Release a) = Unit {0}
 Carries Q L to (Confirm a) = Unit {0}
 Carries Q L to Announce = Unit {0}
-Carries Q L to (Replicate origin number file bytes) = Unit {0}
+Carries Q L to (Replicate origin number file bytes) = (copies : ℕ) × Q origin number (command.Insert file copies bytes)
 Carries Q L to (ReplicaAck origin number file) = Unit {0}
 
 -- a pending insert is of an insert of its file
@@ -177,7 +177,7 @@ module _ (Q : ℕ → ℕ → NodeCommand → Type 0) (L : ℕ → ℕ → ℕ �
   replicated_files : (t : State) (o n : ℕ) (file : List ℕ) (copies : ℕ) (bytes targets : List ℕ) → Q o n (command.Insert file copies bytes) → Each (AsksFor Q) t.pending → OfFiles Q L (replicated t o n file bytes targets)
   replicated_files t o n file copies bytes [] q p = answered t asked.Insert o n _ (command.Insert file copies bytes) tt q p
   replicated_files t o n file copies bytes (x ∷ xs) q p = record {
-    sends = to_each_carries (x ∷ xs) (Replicate o n file bytes) (λ y. tt);
+    sends = to_each_carries (x ∷ xs) (Replicate o n file bytes) (λ y. (copies, q));
     pending = Each-append (AsksFor Q) (filter (λ z. not (is_ask o n z)) t.pending) _ (Each-filter (AsksFor Q) (λ z. not (is_ask o n z)) t.pending p) ((copies, (bytes, q)), tt);
     notes = tt;
   }
