@@ -81,13 +81,6 @@ IsReadyWith-ready a (Asking b n) h = absurd h
 IsReadyWith-ready a (Probing b n probed) h = absurd h
 IsReadyWith-ready a (Leasing b n l r from_left from_right) h = absurd h
 
-pub IsReadyWith-attempt : (a : ℕ) (p : Phase) → IsReadyWith a p → a ≡ attempt_of p
-IsReadyWith-attempt a (Ready b l r) h = h
-IsReadyWith-attempt a (Waiting b) h = absurd h
-IsReadyWith-attempt a (Asking b n) h = absurd h
-IsReadyWith-attempt a (Probing b n probed) h = absurd h
-IsReadyWith-attempt a (Leasing b n l r from_left from_right) h = absurd h
-
 pub HasLeased-moves : (a l r : ℕ) (p q : Phase) → Moves p q → HasLeased a l r p → HasLeased a l r q
 HasLeased-moves a l r _ _ (stays p) h = h
 HasLeased-moves a l r _ _ (keeps b n x y fl fr gl gr) h = h

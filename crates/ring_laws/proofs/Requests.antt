@@ -25,7 +25,7 @@ use Rattle.overlay_rules.specs.Routed.{way_of, one_more, served, on_lookup}
 use Rattle.overlay_rules.specs.Roots.{is_ask, targets_of, replicated, has_too_few, accepted, inserted, on_insert, is_of, replied_each, emptied, reclaimed, on_reclaim, fetched, on_fetch}
 use Rattle.overlay_rules.specs.Replicas.{holding, replicate_at, ack_taken, ack_of, ack_at, awaits, handover_at, on_reply}
 use Rattle.overlay_rules.specs.ReadyTest.{ready_test_in, has_all}
-use Rattle.overlay_rules.specs.Gatekeeper.{cleared, is_left_to, gated_reach, newly_gated, granted, handovers, with_handover, lists_of}
+use Rattle.overlay_rules.specs.Gatekeeper.{cleared, is_left_to, gated_reach, newly_gated, granted, handovers, lists_of}
 use Rattle.overlay_rules.specs.Step.{step, waits_for}
 use Rattle.overlay_rules.proofs.Each.{Each, Each-append, Each-drop, Each-filter, Each-slice_get, Each-take, Each-weaker}
 use Rattle.overlay_rules.proofs.Seat.{Seat, IsService, IsServiceInput}

@@ -14,13 +14,13 @@ use Rattle.overlay_rules.specs.Record.{Setting, IsSetting, World, state_at, worl
 use Rattle.overlay_rules.proofs.Histories.{state_at-itself, state_at-other, state_at-each}
 use Rattle.overlay_rules.proofs.SeatStep.{step_seat}
 use Rattle.ring_laws.proofs.Always.{Takes, Keeps, Both, keeps_both, stepped}
-use Rattle.ring_laws.proofs.Phases.{HasLeased, HasLeased-attempt, IsReadyWith-ready, Moves-settled}
+use Rattle.ring_laws.proofs.Phases.{HasLeased-attempt, IsReadyWith-ready, Moves-settled}
 use Rattle.ring_laws.proofs.Told.{Shows}
 use Rattle.ring_laws.proofs.Knows.{PhaseKnows}
 use Rattle.ring_laws.proofs.Leases.{lease_on, end_in, IsLinkOf, LeasesFit, gate_ready}
 use Rattle.ring_laws.proofs.Grants.{HasLease, Becomes, is_same, is_new, seat_becomes}
 use Rattle.ring_laws.proofs.Messages.{ReadyIn, attempt_in, MessagesHold, messages_at_start, in_ring, moved, ready_stays, attempt_grows}
-use Rattle.ring_laws.proofs.Gates.{GateHolds, GatesHold, gates_keep, gates_at_start, by_message, brings, lease_ends}
+use Rattle.ring_laws.proofs.Gates.{GatesHold, gates_keep, gates_at_start, by_message, brings, lease_ends}
 use Rattle.ring_laws.proofs.Sides.{short, link_of, side_of, MessageKeeps, InputKeeps, seat_sides}
 
 abbrev pub sides_in : (ℕ → State) → ℕ → Bool → Side

@@ -1,7 +1,6 @@
 -- What the sender of a message shows by its phase once it has sent it, and ever after:
 -- of a Release that it is past the attempt, of a Confirm that it is ready with it, of a LeaseRequest that it is leasing, or ready, or past it.
 use Rattle.std.proofs.Common.{◌<◌, ℕ, ◌+◌, inl, None, List, [], ◌∷◌, ◌++◌, ◌==◌, if◌then◌else◌, refl, arith, rules}
-use Rattle.std.proofs.lemmas.Bool.{cond_both}
 use Rattle.wire_msg.specs.Words.{Message, Lookup, LookupReply, Insert, InsertReply, Fetch, FetchReply, JoinRequest, JoinReply, JoinRefuse, Probe, ProbeReply, LeaseRequest, Grant, Deny, Handover, Release, Confirm, Announce, Replicate, ReplicaAck, Reclaim, ReclaimReply}
 use Rattle.overlay_rules.specs.State.{State, Phase, Waiting, Leasing, Ready, attempt_of}
 use Rattle.overlay_rules.specs.Outcome.{Outcome, Input, Sent, to_both, to_each}
