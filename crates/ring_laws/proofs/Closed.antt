@@ -1,6 +1,6 @@
 -- Each closing of a command is right.
-use Rattle.std.proofs.Common.{◌≡◌, ℕ, Bool, true, false, Option, Some, None, List, [], ◌∷◌, ◌++◌, take, slice_get, Contains, refl, subst, ap, ◌∙◌}
-use Rattle.std.proofs.lemmas.List.Elements.{Contains-append_left, Contains-push}
+use Rattle.std.proofs.Common.{◌≡◌, ℕ, Bool, true, false, Option, Some, None, List, take, slice_get, Contains, refl, subst, ap, ◌∙◌}
+use Rattle.std.proofs.lemmas.List.Elements.{Contains-push}
 use Rattle.ring_math.specs.Members.{IsPred, IsSucc}
 use Rattle.coverage.specs.Links.{IsNext}
 use Rattle.coverage.specs.GapFiles.{Lists}
@@ -29,7 +29,7 @@ use Rattle.ring_laws.proofs.Ring.{RingHolds, JoinsHold, no_lease}
 use Rattle.ring_laws.proofs.Lookups.{IsReplied, IsBehind, RequestsHold}
 use Rattle.ring_laws.proofs.Causes.{refusal, denial}
 use Rattle.ring_laws.proofs.Closings.{IsJoinOf, Closing, by_reply, by_joining, by_refusal, by_denial, by_giving_up, as_not_begun, as_given_up, as_idle, MessageReplies, InputReplies}
-use Rattle.ring_laws.proofs.JoinNumbers.{PhaseJoins, JoinsCommanded, was_commanded}
+use Rattle.ring_laws.proofs.JoinNumbers.{PhaseJoins, JoinsCommanded, was_commanded, was_join_later}
 
 -- ---- a joiner becomes ready between its true neighbours
 
@@ -108,11 +108,8 @@ join_was w x n (Leasing a m l r fl fr) h e = subst (WasJoin w x) e h
 join_was w x n (Waiting a) h e = absurd e
 join_was w x n (Ready a l r) h e = absurd e
 
-later_join : (w : World) (e : Entry) (s : ℕ → State) (x n : ℕ) → WasJoin w x n → WasJoin (record { states = s; past = w.past ++ e ∷ [] }) x n
-later_join w e s x n h = (h.0, (h.1.0, Contains-append_left w.past (e ∷ []) h.1.0 h.1.1, h.1.2))
-
 join_later : (w : World) (e : Entry) (x : ℕ) (j : Input) (n : ℕ) → WasJoin w x n → WasJoin (stepped w e x (step (w.states x) j).state) x n
-join_later w e x j n h = later_join w e (state_at w.states x (step (w.states x) j).state) x n h
+join_later w e x j n h = was_join_later w e (state_at w.states x (step (w.states x) j).state) x n h
 
 not_begun_right : (p : Phase) (v : Event) (x : ℕ) (reason : Own) → StopCause p reason → RightlyStopped p v x reason
 not_begun_right p v x own.Already h = h

@@ -15,7 +15,7 @@ use Rattle.overlay_rules.proofs.Seat.{Seat, IsService}
 use Rattle.overlay_rules.proofs.Seat as row
 use Rattle.overlay_rules.proofs.SeatStep.{granted_sends, newly_gated_sends, new_lists}
 use Rattle.overlay_rules.proofs.Sends.{Each-to_both, Each-to_each}
-use Rattle.ring_laws.proofs.Leases.{lease_on, pick, new_stands}
+use Rattle.ring_laws.proofs.Leases.{implied, lease_on, pick, new_stands}
 
 -- the lease of joiner i with attempt a, with these lists, stands on that side
 pub record HasLease (right : Bool) (s : State) (i a : ℕ) (lists : Lists) : Type 0 where
@@ -76,10 +76,6 @@ found_gate right s from a h lists e = by (lease_on right s) refl h e where
     attempt = (Decides-eqb lease.gate.attempt a).0 (and_parts (lease.gate.joiner == from) (lease.gate.attempt == a) f).1;
     same = sym g;
   }
-
-implied : (a b : Bool) → not a || b ≡ true → a ≡ true → b ≡ true
-implied true b e f = e
-implied false b e f = cc
 
 or_other : (a b : Bool) → a || b ≡ true → a ≡ false → b ≡ true
 or_other true b e f = cc

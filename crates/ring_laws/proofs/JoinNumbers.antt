@@ -66,8 +66,12 @@ joins_weaker P Q (Ready a l r) f h = tt
 
 -- ---- one step keeps it
 
-was_join_later : (w : World) (e : Entry) (s : ℕ → State) (y n : ℕ) → WasJoin w y n → WasJoin (record { states = s; past = w.past ++ e ∷ [] }) y n
-was_join_later w e s y n h = (h.0, (h.1.0, Contains-append_left w.past (e ∷ []) h.1.0 h.1.1, h.1.2))
+-- what was commanded before an entry was commanded after it
+pub was_commanded_later : (w : World) (e : Entry) (s : ℕ → State) (y n : ℕ) (c : NodeCommand) → WasCommanded w y n c → WasCommanded (record { states = s; past = w.past ++ e ∷ [] }) y n c
+was_commanded_later w e s y n c h = (h.0, Contains-append_left w.past (e ∷ []) h.0 h.1, h.2)
+
+pub was_join_later : (w : World) (e : Entry) (s : ℕ → State) (y n : ℕ) → WasJoin w y n → WasJoin (record { states = s; past = w.past ++ e ∷ [] }) y n
+was_join_later w e s y n h = (h.0, was_commanded_later w e s y n (command.Join h.0) h.1)
 
 command_joins : (v : World) (x n : ℕ) (c : NodeCommand) → WasCommanded v x n c → InputJoins (WasJoin v x) (Command n c)
 command_joins v x n (command.Join via) h = (via, h)

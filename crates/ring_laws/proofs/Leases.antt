@@ -161,7 +161,8 @@ busy_with-none true None e f = refl
 busy_with-none true (Some g) e f = cc
 busy_with-none false g e f = cc
 
-implied : (a b : Bool) → not a || b ≡ true → a ≡ true → b ≡ true
+-- the second, where the first holds
+pub implied : (a b : Bool) → not a || b ≡ true → a ≡ true → b ≡ true
 implied true b e f = e
 implied false b e f = cc
 

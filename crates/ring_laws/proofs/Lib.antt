@@ -22,4 +22,4 @@ pub mod Notes
 pub mod Closed
 pub mod Numbers
 pub mod Once
-pub mod FirstEntry
+mod FirstEntry

@@ -1,7 +1,7 @@
 -- The sixth invariant of every legal record: no command is closed twice. A command that is open has no note Closed yet, and what is closed was given.
 use Rattle.std.proofs.Common.{◌≡◌, ◌≢◌, ◌⊎◌, inl, inr, ◌<◌, ◌≤◌, ℕ, ◌+◌, Bool, ◌==◌, List, [], ◌∷◌, ◌++◌, length, Contains, take_all, append-nil, refl, sym, subst, ap, ◌∙◌, arith}
 use Rattle.std.proofs.lemmas.Bool.{cases_eq, cases_lt}
-use Rattle.std.proofs.lemmas.List.Elements.{Contains-append_left, Contains-push}
+use Rattle.std.proofs.lemmas.List.Elements.{Contains-push}
 use Rattle.std.proofs.lemmas.List.Concat.{flat_map-append}
 use Rattle.wire_msg.specs.declared.command.Command.{Command as NodeCommand}
 use Rattle.wire_msg.specs.declared.command.Command.TheVariants as command
@@ -16,7 +16,7 @@ use Rattle.overlay_rules.proofs.Histories.{state_at-itself, state_at-other, stat
 use Rattle.overlay_rules.proofs.SeatStep.{step_seat}
 use Rattle.ring_laws.proofs.Always.{Takes, Keeps, Both, keeps_both, stepped, always}
 use Rattle.ring_laws.proofs.Lookups.{RequestsHold, AllHold, arrives_fresh, requests_keep, all_at_start}
-use Rattle.ring_laws.proofs.JoinNumbers.{JoinsCommanded, was_commanded, joins_keep_numbers, joins_at_the_start}
+use Rattle.ring_laws.proofs.JoinNumbers.{JoinsCommanded, was_commanded, was_commanded_later, joins_keep_numbers, joins_at_the_start}
 use Rattle.ring_laws.proofs.Closed.{join_was}
 use Rattle.ring_laws.proofs.Numbers.{closings, closings-append, IsGiven, IsRequest, IsAsked, asked_given, IsOpen, IsApart, Counted, seat_counted}
 
@@ -75,11 +75,8 @@ asked_after g w e x i t s n h = by i refl h where
   by (Comes from m) is f = absurd f
   by Noise is f = absurd f
 
-later_command : (w : World) (e : Entry) (s : ℕ → State) (y n : ℕ) (c : NodeCommand) → WasCommanded w y n c → WasCommanded (record { states = s; past = w.past ++ e ∷ [] }) y n c
-later_command w e s y n c h = (h.0, Contains-append_left w.past (e ∷ []) h.0 h.1, h.2)
-
 later_waits : (w : World) (e : Entry) (s : ℕ → State) (y n : ℕ) → Waits w y n → Waits (record { states = s; past = w.past ++ e ∷ [] }) y n
-later_waits w e s y n b = record { what = b.what; request = b.request; commanded_here = later_command w e s y n b.what b.commanded_here }
+later_waits w e s y n b = record { what = b.what; request = b.request; commanded_here = was_commanded_later w e s y n b.what b.commanded_here }
 
 notes_after : (past : List Entry) (e : Entry) → notes_in (past ++ e ∷ []) ≡ notes_in past ++ e.notes
 notes_after past e = flat_map-append (λ (d : Entry). d.notes) past (e ∷ []) ∙ ap (λ ns. notes_in past ++ ns) (append-nil e.notes)
@@ -147,9 +144,9 @@ keeps g w e x i q j k t = record {
 
   given : (n : ℕ) → 0 < closings n (notes_in v.past) → (y : ℕ) × ((c : NodeCommand) × WasCommanded v y n c)
   given n lt = elim (cases_lt 0 (before n)) [
-    | inl was ↦ let b = k.given n was in (b.0, (b.1.0, later_command w e v.states b.0 n b.1.0 b.1.1))
+    | inl was ↦ let b = k.given n was in (b.0, (b.1.0, was_commanded_later w e v.states b.0 n b.1.0 b.1.1))
     | inr le ↦ elim ((counted n).source (more (closings n (notes_in v.past)) (before n) (closings n o.notes) (sum n) lt le)) [
-      | inl c ↦ let b = open_commanded w x n j k c in (x, (b.0, later_command w e v.states x n b.0 b.1))
+      | inl c ↦ let b = open_commanded w x n j k c in (x, (b.0, was_commanded_later w e v.states x n b.0 b.1))
       | inr c ↦ (x, given_after g w e x i t v.states n c)
     ]
   ] where
