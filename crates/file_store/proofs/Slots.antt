@@ -211,7 +211,7 @@ file-stands hs f p d at =
 pub placed-set : (hs : List Held) (f : List ℕ) (s : Slot) (p : ℕ) (new : List Held) → StandsAt hs f p → new ≡ set hs p (record (get_or hs p blank) { slot = s }) → Placed hs f s new
 placed-set hs f s p new at n = record {
   same = n ∙ ap (λ g. set hs p (record { file = g; slot = s })) (file-stands hs f p blank at)
-    ∙ ap (λ q. set hs q (record { file = f; slot = s })) at.place ∙ sym (with-set hs f s at.here);
+      ∙ ap (λ q. set hs q (record { file = f; slot = s })) at.place ∙ sym (with-set hs f s at.here);
 }
 
 pub placed-insert : (hs : List Held) (f : List ℕ) (s : Slot) (p : ℕ) (new : List Held) → GoesInAt hs f p → new ≡ insert hs p (record { file = f; slot = s }) → Placed hs f s new

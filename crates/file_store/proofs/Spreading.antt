@@ -66,11 +66,13 @@ spread-pushed entries h (p ∷ ps) e = rw (get_or-pushed entries h blank p.entry
 
 leads-pushed : (entries : List Held) (h : Held) (places : List Place) → EachLeads entries places → EachLeads (entries ++ h ∷ []) places
 leads-pushed entries h [] e = tt
-leads-pushed entries h (p ∷ ps) e =
-    (record {
-      within = let l = e.0.within in let n = length-pushed entries h in omega arith;
-      head = rw (get_or-pushed entries h blank p.entry e.0.within) e.0.head;
-    }, leads-pushed entries h ps e.1)
+leads-pushed entries h (p ∷ ps) e = (
+  record {
+    within = let l = e.0.within in let n = length-pushed entries h in omega arith;
+    head = rw (get_or-pushed entries h blank p.entry e.0.within) e.0.head;
+  },
+  leads-pushed entries h ps e.1,
+)
 
 spread-insert : (entries : List Held) (places : List Place) (i : ℕ) (p : Place) → spread entries (insert places i p) ≡ insert (spread entries places) i (entry_at entries p)
 spread-insert entries places zero p = refl
@@ -162,11 +164,13 @@ spread-set entries (p ∷ ps) (suc i) d h e a l =
 
 leads-set : (entries : List Held) (e : ℕ) (h : Held) (places : List Place) → h.file ≡ (get_or entries e blank).file → EachLeads entries places → EachLeads (set entries e h) places
 leads-set entries e h [] f l = tt
-leads-set entries e h (p ∷ ps) f l =
-    (record {
-      within = let n = length-set entries e h in let w = l.0.within in omega arith;
-      head = subst (λ (g : List ℕ). IsHead g p.head) (sym (same-file entries e p.entry h f l.0.within)) l.0.head;
-    }, leads-set entries e h ps f l.1)
+leads-set entries e h (p ∷ ps) f l = (
+  record {
+    within = let n = length-set entries e h in let w = l.0.within in omega arith;
+    head = subst (λ (g : List ℕ). IsHead g p.head) (sym (same-file entries e p.entry h f l.0.within)) l.0.head;
+  },
+  leads-set entries e h ps f l.1,
+)
   where
     same-file : (xs : List Held) (e j : ℕ) (h : Held) → h.file ≡ (get_or xs e blank).file → j < length xs → (get_or (set xs e h) j blank).file ≡ (get_or xs j blank).file
     same-file [] e j h f l = absurd (omega arith)

@@ -119,7 +119,13 @@ impl Row {
         for place in 0..self.len() {
             let held = self.at(place);
             let slot = copy_of(alloc, &held.slot)?;
-            copy.insert(place, Held { file: held.file, slot });
+            copy.insert(
+                place,
+                Held {
+                    file: held.file,
+                    slot,
+                },
+            );
         }
         Ok(copy)
     }

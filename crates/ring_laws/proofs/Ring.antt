@@ -119,7 +119,7 @@ ring_grown : (g : Setting) (w : World) (e : Entry) (x : ℕ) (i : Input) (a n l 
     (step (w.states x) i).state.left_gate ≡ (w.states x).left_gate → (step (w.states x) i).state.right_gate ≡ (w.states x).right_gate →
     IsRing (ReadyIn (state_at w.states x (step (w.states x) i).state)) (attempt_in (state_at w.states x (step (w.states x) i).state)) (sides_in (state_at w.states x (step (w.states x) i).state))
 ring_grown g w e x i a n l r fl fr left right set h k q t was now has_left has_right same_left same_right =
-    ring_joined P (ReadyIn after) (attempt_in w.states) (attempt_in after) (sides_in w.states) (sides_in after) x a (holder_of l r) q.ring (record {
+    ring_joined {P = P} {Q = ReadyIn after} {before = attempt_in w.states} {after = attempt_in after} {old = sides_in w.states} {i = x} {a = a} {holder = holder_of l r} (sides_in after) q.ring (record {
       bound = in_ring g set x t.member;
       absent = absent;
       there = λ z. there z;

@@ -19,7 +19,7 @@ returns-then-found-head c = λ (d : Held).
     let read = spread-read c.self.inside.entries.items c.self.inside.places.items c.args.place found d within c.index-found.ensures in
     rw (← c.self.view_is)
     (head-decides _ c.args.file.now found.head c.head_of-head.result leads.head c.head_of-head.ensures c.if-found-head.true
-      ∙ ap (λ (h : Held). is_before h.file c.args.file.now) (sym read))
+    ∙ ap (λ (h : Held). is_before h.file c.args.file.now) (sym read))
 
 pub returns : goal.returns
 returns c = λ (d : Held).
