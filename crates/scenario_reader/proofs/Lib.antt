@@ -4,3 +4,4 @@ mod Pieces
 mod Growth
 mod Outcomes
 mod Limits
+mod FirstPath

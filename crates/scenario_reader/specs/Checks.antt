@@ -5,7 +5,7 @@ use Rattle.std.specs.Option.{is_some}
 use Rattle.scenario_reader.specs.declared.fault.LineFault.{LineFault}
 use Rattle.scenario_reader.specs.declared.fault.LineFault.TheVariants as fault
 use Rattle.scenario_reader.specs.declared.form.Form.{Form}
-use Rattle.scenario_reader.specs.declared.form.Form.TheVariants.{Node, First, Lookup, Settle}
+use Rattle.scenario_reader.specs.declared.form.Form.TheVariants.{Node, First}
 use Rattle.scenario_reader.specs.declared.node.NodeLine.{NodeLine}
 use Rattle.scenario_reader.specs.Plain.{Draft, node_named}
 use Rattle.scenario_reader.specs.Tallies.{tally_of}
