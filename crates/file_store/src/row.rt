@@ -6,7 +6,6 @@
 ghost use Rattle.std.specs.Prelude.{◌≡◌, ◌<◌, ◌≤◌, ◌+◌, ◌++◌, ◌∷◌, [], length, vec_len, vec_capacity, IfOk, OnOk, OnErr, slice_index_or, slice_set};
 ghost use Rattle.std.specs.List.{insert};
 ghost use Rattle.ring_math.specs.Bytewise.{is_before};
-ghost use Rattle.file_store.specs.Heads.{IsHead};
 ghost use Rattle.file_store.specs.Spread.{blank};
 
 use crate::order::comes_before;
@@ -62,20 +61,17 @@ impl Row {
         &self.entries[self.places[place].entry as usize]
     }
 
-    /// The first two bytes of the entry's file, as a number.
-    pub(crate) fn head(&self, place: usize) -> u16
-        requires { place < length self.now.files }
-        ensures { (d : Held) → IsHead (slice_index_or self.now.files place d).file result }
-    {
-        self.places[place].head
-    }
-
     /// Whether the entry's file comes before this one.
     pub(crate) fn comes_before(&self, place: usize, file: &FileId) -> bool
         requires { place < length self.now.files }
         ensures { (d : Held) → result ≡ is_before (slice_index_or self.now.files place d).file file.now }
     {
-        comes_before(&self.at(place).file, file)
+        let found = self.places[place];
+        let head = head_of(file);
+        if found.head != head {
+            return found.head < head;
+        }
+        comes_before(&self.entries[found.entry as usize].file, file)
     }
 
     /// Takes room for so many more entries. What stands stays.

@@ -5,12 +5,10 @@ ghost use Rattle.std.specs.List.{list_all};
 ghost use Rattle.ring_math.specs.Bytewise.{same_bytes};
 ghost use Rattle.ring_math.specs.Files.{slot_of, with_slot, has_entry, has_tomb, has_room, buried, buried_all, has_lists};
 ghost use Rattle.file_store.specs.Answers.{bytes_in, put_at, put_of, after_put, bury_of, after_bury, can_set, lays_any};
-ghost use Rattle.file_store.specs.Heads.{IsHead};
 ghost use Rattle.file_store.specs.Places.{place_of, is_rising, StandsAt, GoesInAt};
 
 use crate::answer::{Bury, Put};
 use crate::order::{is_same, is_same_text};
-use crate::place::head_of;
 use crate::row::Row;
 use ring_math::{Bytes, FileId, FileIds, Held, OutOfMemory};
 use std::alloc::Global;
@@ -69,9 +67,8 @@ impl FileStore {
     fn place(&self, file: &FileId) -> usize
         ensures { result ≡ place_of self.now.files file.now }
     {
-        let head = head_of(file);
-        let mut low = self.first_of_head(file, head);
-        let mut high = self.end_of_head(file, head, low);
+        let mut low = 0;
+        let mut high = self.row.len();
         while low < high {
             let middle = low + (high - low) / 2;
             if self.row.comes_before(middle, file) {
@@ -81,42 +78,6 @@ impl FileStore {
             }
         }
         low
-    }
-
-    /// A place up to which every file begins with less: the heads alone are searched by halves, so the step has no branch.
-    fn first_of_head(&self, file: &FileId, head: u16) -> usize
-        requires { IsHead file.now head }
-        ensures { result ≤ place_of self.now.files file.now }
-    {
-        let mut low = 0;
-        let mut high = self.row.len();
-        while low < high {
-            let middle = low + (high - low) / 2;
-            if self.row.head(middle) < head {
-                low = middle + 1;
-            } else {
-                high = middle;
-            }
-        }
-        low
-    }
-
-    /// A place from which on every file begins with more, sought in steps that double: few files begin alike.
-    fn end_of_head(&self, file: &FileId, head: u16, low: usize) -> usize
-        requires head { IsHead file.now head }
-        requires low { low ≤ place_of self.now.files file.now }
-        ensures place { place_of self.now.files file.now ≤ result }
-        ensures within { result ≤ length self.now.files }
-    {
-        let len = self.row.len();
-        let mut high = low;
-        while high < len {
-            if self.row.head(high) > head {
-                return high;
-            }
-            high += high - low + 1;
-        }
-        len
     }
 
     /// The place where the file stands, or where it would go in.

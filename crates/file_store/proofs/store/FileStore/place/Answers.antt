@@ -1,14 +1,10 @@
 use Rattle.std.proofs.Common.{arith, sym, ◌∙◌}
-use Rattle.file_store.proofs.Slots.{beyond, within}
+use Rattle.file_store.proofs.Slots.{place-within, beyond, within}
 use Rattle.file_store.specs.Spread.{blank}
 use Rattle.file_store.proofs.store.FileStore.place.Goals as goal
 
 pub loop-low-init : goal.loop-low-init
-loop-low-init c =
-    let from = rw (← c.self.view_is) at c.first_of_head-low.ensures in
-    let to = rw (← c.self.view_is) at c.end_of_head-high.ensures.place in
-    let inside = rw (← c.self.view_is) at c.end_of_head-high.ensures.within in
-    record { from = from; to = to; inside = inside }
+loop-low-init c = record { from = omega arith; to = omega (arith, place-within c.self.inside.row.files c.args.file.now); inside = omega arith }
 
 pub loop-low-preserved-then-comes_before : goal.loop-low-preserved-then-comes_before
 loop-low-preserved-then-comes_before c =
