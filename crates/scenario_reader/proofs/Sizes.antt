@@ -34,7 +34,6 @@ within_lines n read f s = cases (nat_lt 10000 n) where
   cases true e = cc
   cases false e = (refl, e)
 
-
 -- ---- how long it is
 
 -- the bytes of lines, each with its end
