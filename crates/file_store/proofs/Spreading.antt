@@ -65,17 +65,7 @@ spread-pushed entries h (p ∷ ps) e = rw (get_or-pushed entries h blank p e.0, 
 
 leads-pushed : (entries : List Held) (h : Held) (places : List ℕ) → EachLeads entries places → EachLeads (entries ++ h ∷ []) places
 leads-pushed entries h [] e = tt
-<<<<<<< HEAD
-leads-pushed entries h (p ∷ ps) e = (
-  record {
-    within = let l = e.0.within in let n = length-pushed entries h in omega arith;
-    head = rw (get_or-pushed entries h blank p.entry e.0.within) e.0.head;
-  },
-  leads-pushed entries h ps e.1,
-)
-=======
 leads-pushed entries h (p ∷ ps) e = (let l = e.0 in let n = length-pushed entries h in omega arith, leads-pushed entries h ps e.1)
->>>>>>> c573866694afedec7214df2e5222a287df6d0173
 
 heads-pushed : (entries : List Held) (heads : List ℕ) (h : Held) (n : ℕ) → EachHead entries heads → IsHead h.file n → EachHead (entries ++ h ∷ []) (heads ++ n ∷ [])
 heads-pushed [] [] h n e q = (q, tt)
@@ -186,28 +176,9 @@ spread-set entries (p ∷ ps) (suc i) d h e a l =
     differs : (a b : ℕ) → not (a == b) ≡ true → a ≢ b
     differs a b t e = grind (arith, nat_tests)
 
-<<<<<<< HEAD
-leads-set : (entries : List Held) (e : ℕ) (h : Held) (places : List Place) → h.file ≡ (get_or entries e blank).file → EachLeads entries places → EachLeads (set entries e h) places
-leads-set entries e h [] f l = tt
-leads-set entries e h (p ∷ ps) f l = (
-  record {
-    within = let n = length-set entries e h in let w = l.0.within in omega arith;
-    head = subst (λ (g : List ℕ). IsHead g p.head) (sym (same-file entries e p.entry h f l.0.within)) l.0.head;
-  },
-  leads-set entries e h ps f l.1,
-)
-  where
-    same-file : (xs : List Held) (e j : ℕ) (h : Held) → h.file ≡ (get_or xs e blank).file → j < length xs → (get_or (set xs e h) j blank).file ≡ (get_or xs j blank).file
-    same-file [] e j h f l = absurd (omega arith)
-    same-file (x ∷ xs) zero zero h f l = f
-    same-file (x ∷ xs) zero (suc j) h f l = refl
-    same-file (x ∷ xs) (suc e) zero h f l = refl
-    same-file (x ∷ xs) (suc e) (suc j) h f l = same-file xs e j h f (omega arith)
-=======
 leads-set : (entries : List Held) (e : ℕ) (h : Held) (places : List ℕ) → EachLeads entries places → EachLeads (set entries e h) places
 leads-set entries e h [] l = tt
 leads-set entries e h (p ∷ ps) l = (let n = length-set entries e h in let w = l.0 in omega arith, leads-set entries e h ps l.1)
->>>>>>> c573866694afedec7214df2e5222a287df6d0173
 
 heads-set : (entries : List Held) (heads : List ℕ) (e : ℕ) (h : Held) → h.file ≡ (get_or entries e blank).file → EachHead entries heads → EachHead (set entries e h) heads
 heads-set [] heads e h f k = k

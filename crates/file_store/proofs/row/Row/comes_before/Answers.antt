@@ -20,13 +20,8 @@ returns-then-found-sought c = λ (d : Held).
     let read = spread-read entries c.self.inside.places.items c.args.place entry d within c.index.ensures in
     let head = head-read entries c.self.inside.heads.items entry c.index-2.result.now c.self.invariant.begins leads c.index-2.ensures in
     rw (← c.self.view_is)
-<<<<<<< HEAD
-    (head-decides _ c.args.file.now found.head c.head_of-head.result leads.head c.head_of-head.ensures c.if-found-head.true
-    ∙ ap (λ (h : Held). is_before h.file c.args.file.now) (sym read))
-=======
     (head-decides _ c.args.file.now c.index-2.result.now c.head_of-sought.result head c.head_of-sought.ensures c.if-found-sought.true
-      ∙ ap (λ (h : Held). is_before h.file c.args.file.now) (sym read))
->>>>>>> c573866694afedec7214df2e5222a287df6d0173
+    ∙ ap (λ (h : Held). is_before h.file c.args.file.now) (sym read))
 
 pub index-requires-3 : goal.index-requires-3
 index-requires-3 c =
