@@ -1,5 +1,5 @@
 -- Where a key goes on from a node: to somebody it knows, who is nearer to the key.
-use Rattle.std.proofs.Common.{◌≡◌, ◌≢◌, ℕ, zero, suc, Bool, true, false, not, ◌&&◌, ◌||◌, ◌==◌, nat_lt, nat_le, ◌^◌, ◌<◌, ◌⊎◌, List, [], ◌∷◌, ◌++◌, filter, take, find, Option, Some, None, All, Contains, refl, sym, subst, ap, ◌∙◌, arith, inl, inr}
+use Rattle.std.proofs.Common.{◌≡◌, ℕ, Bool, true, false, not, nat_lt, nat_le, ◌^◌, ◌<◌, ◌⊎◌, List, [], ◌∷◌, ◌++◌, filter, take, find, Option, Some, None, All, Contains, refl, sym, subst, ap, ◌∙◌, inl, inr}
 use Rattle.std.proofs.lemmas.Bool.{cases_Bool, cond_both, cond-true, cond-false, cases_eq, and_parts, not_from_false, true_from_ne_false}
 use Rattle.std.proofs.lemmas.List.Elements.{All-nil, All-cons, All-head, All-tail, All-append, All-take, All-filter, All-contains, All-contains_itself, Contains-append_left, Contains-append_right, Contains-append_cases}
 use Rattle.ring_math.specs.Ring.{cw_of, is_nearer, digit_of, shared_of}

@@ -36,6 +36,7 @@ use Rattle.overlay_rules.specs.Gates.{verdict_unless, blocked_by, fits, is_again
 use Rattle.overlay_rules.specs.Gatekeeper.{probe_in, handovers, with_handover, granted, links_of, gated_reach, is_left_to, newly_gated, lease_by, lease_in, confirm_in}
 use Rattle.overlay_rules.specs.Step.{step, waits_for}
 use Rattle.overlay_rules.proofs.Each.{Each, Each-append, Each-weaker}
+use Rattle.overlay_rules.proofs.Sends.{Each-to_each, Each-handovers}
 use Rattle.overlay_rules.proofs.Seat.{SameSeat, IsService, AllService, IsServiceNote, AllServiceNotes, IsServiceInput, Seat, serves, unmoved, request_on, request_served, request_unready, request_busy, begins, not_begun, stops_asking, stops_probing, stops_leasing, idles, refused, probes, probes_on, leases, denied, grant_older, grant_settled, grant_kept, grant_readies, file_readies, probed, lease_unready, lease_again, lease_busy, lease_moved, lease_new, released, confirms, announced}
 
 -- ---- tests as facts
@@ -84,8 +85,7 @@ served_service s t what o n (way.Gap j) next here e f h = service s _ e (reply_s
 served_service s t what o n (way.To y) next here e f h = service s _ e (f, tt) tt
 
 to_each_service : (m : Message) → IsService m → (ys : List ℕ) → Each (λ x. IsService x.message) (to_each ys m)
-to_each_service m f [] = tt
-to_each_service m f (y ∷ ys) = (f, to_each_service m f ys)
+to_each_service m f ys = Each-to_each (λ x. IsService x.message) ys m (λ y. f)
 
 replicated_service : (s t : State) (o n : ℕ) (file bytes targets : List ℕ) → SameSeat s t → Service s (replicated t o n file bytes targets)
 replicated_service s t o n file bytes [] e = service s _ e (tt, tt) (tt, tt)
@@ -348,12 +348,7 @@ probe_seat s from a (Probing b m ps) e = unmoved s _
 probe_seat s from a (Leasing b m l r fl fr) e = unmoved s _
 
 pub handovers_service : (to : ℕ) (files : List Held) (manifest : List (List ℕ)) → Each (λ x. IsService x.message) (handovers to files manifest)
-handovers_service to files [] = tt
-handovers_service to files (f ∷ fs) = one (slot_of files f) (handovers_service to files fs) where
-  one : (h : Option Slot) → Each (λ x. IsService x.message) (handovers to files fs) → Each (λ x. IsService x.message) (with_handover to f h (handovers to files fs))
-  one (Some (Some bytes)) rest = (tt, rest)
-  one (Some None) rest = rest
-  one None rest = rest
+handovers_service to files manifest = Each-handovers (λ x. IsService x.message) to files manifest (λ f b. tt)
 
 unless_seat : (s : State) (from a l r b x y : ℕ) (j : Option ℕ) → s.phase ≡ Ready b x y → blocked_by (links_of s x y) s.me from a l r ≡ j →
     Seat s (Comes from (LeaseRequest a l r)) (lease_by s x y from a l r (verdict_unless (links_of s x y) s.me from l r j))

@@ -7,7 +7,7 @@ use Rattle.overlay_rules.specs.declared.entry.Event.{Event}
 use Rattle.overlay_rules.specs.declared.entry.Event.TheVariants as event
 use Rattle.overlay_rules.specs.declared.entry.Entry.{Entry}
 use Rattle.overlay_rules.specs.State.{State}
-use Rattle.overlay_rules.specs.Outcome.{Outcome, Input, Command, Comes, Noise}
+use Rattle.overlay_rules.specs.Outcome.{Input, Command, Comes, Noise}
 use Rattle.overlay_rules.specs.Step.{step}
 use Rattle.overlay_rules.specs.Record.{Setting, World, Visit, IsFresh, sent_in, visit, visit_of, state_at, states_after, after, run, unstamped, enveloped, Follows, IsSaidBy, LegalFrom, IsRecord, world_at_start, world_after}
 

@@ -1,38 +1,34 @@
 -- Why a join was refused or denied: the sender of the answer shows the cause in the state after the entry that sent it.
-use Rattle.std.proofs.Common.{◌≡◌, ◌≢◌, ◌⊎◌, inl, inr, ◌<◌, ◌≤◌, ℕ, ◌+◌, Bool, true, false, not, ◌&&◌, ◌==◌, if◌then◌else◌, Option, Some, None, List, [], ◌∷◌, ◌++◌, take, slice_get, Contains, refl, sym, subst, ap, ◌∙◌, arith, rules}
-use Rattle.coverage.specs.declared.Reach.{Reach}
+use Rattle.std.proofs.Common.{◌≡◌, ◌⊎◌, inl, inr, ℕ, ◌+◌, Bool, true, false, ◌==◌, if◌then◌else◌, Option, Some, None, List, ◌∷◌, ◌++◌, take, slice_get, refl, sym, subst, ap, ◌∙◌, rules}
 use Rattle.coverage.specs.declared.Hop.{Hop}
 use Rattle.coverage.specs.declared.Hop.TheVariants as hop
-use Rattle.coverage.specs.Coverage.{in_gap_of, or_else}
+use Rattle.coverage.specs.Coverage.{or_else}
 use Rattle.coverage.specs.NextHop.{next_hop_of}
 use Rattle.coverage.proofs.Ends.{joiner_on, gap_of-some}
 use Rattle.coverage.proofs.Onward.{next_hop-gap}
-use Rattle.coverage.specs.GapFiles.{Lists}
 use Rattle.wire_msg.specs.declared.note.Note.{Note}
 use Rattle.wire_msg.specs.declared.reply.Why.{Why}
 use Rattle.wire_msg.specs.declared.reply.Why.TheVariants as why
 use Rattle.wire_msg.specs.Words.{Message, Envelope, Sent, Lookup, LookupReply, Insert, InsertReply, Fetch, FetchReply, JoinRequest, JoinReply, JoinRefuse, Probe, ProbeReply, LeaseRequest, Grant, Deny, Handover, Release, Confirm, Announce, Replicate, ReplicaAck, Reclaim, ReclaimReply}
-use Rattle.overlay_rules.specs.declared.gate.Gate.{Gate}
 use Rattle.overlay_rules.specs.declared.entry.Event.{Event}
 use Rattle.overlay_rules.specs.declared.entry.Event.TheVariants as event
 use Rattle.overlay_rules.specs.declared.entry.Entry.{Entry}
-use Rattle.overlay_rules.specs.declared.request.Way.{Way}
 use Rattle.overlay_rules.specs.declared.request.Way.TheVariants as way
 use Rattle.overlay_rules.specs.State.{State, Lease, Phase, Waiting, Asking, Probing, Leasing, Ready, is_ready, bare, joiner_of, reach}
-use Rattle.overlay_rules.specs.Outcome.{Outcome, Input, Command, Comes, Noise, becomes, to_both, to_each}
+use Rattle.overlay_rules.specs.Outcome.{Outcome, Input, becomes, to_both, to_each}
 use Rattle.overlay_rules.specs.Routed.{way_by, way_in, way_of}
 use Rattle.overlay_rules.specs.Gates.{is_older, unless, busy_with, blocked_by}
 use Rattle.overlay_rules.specs.Gatekeeper.{links_of, unless_lease, cleared, newly_gated, lists_of}
 use Rattle.overlay_rules.specs.Step.{step}
 use Rattle.overlay_rules.specs.Record.{Setting, World, Follows, after, IsRecord, sent_in, state_at, world_after}
-use Rattle.overlay_rules.specs.Rightly.{ShowsBusy, ShowsWhy, SentBy, IsDenial}
+use Rattle.overlay_rules.specs.Rightly.{ShowsBusy, ShowsWhy, IsDenial}
 use Rattle.overlay_rules.proofs.Each.{Each, Each-append, Each-contains, Each-weaker}
 use Rattle.overlay_rules.proofs.Histories.{IsSentAt, sent_before, state_at-itself, IsFrom, each_envelope, follows_at, world_after-next}
 use Rattle.overlay_rules.proofs.Seat.{Seat, IsService}
 use Rattle.overlay_rules.proofs.Seat as row
 use Rattle.overlay_rules.proofs.SeatStep.{step_seat, granted_sends, newly_gated_sends}
 use Rattle.overlay_rules.proofs.Sends.{Each-to_both, Each-to_each}
-use Rattle.ring_laws.proofs.Always.{stepped, stepped-after}
+use Rattle.ring_laws.proofs.Always.{stepped-after}
 use Rattle.ring_laws.proofs.Leases.{bare-unless}
 
 -- ---- a key that is kept for a joiner

@@ -1,39 +1,34 @@
 -- Each closing of a command is right.
-use Rattle.std.proofs.Common.{◌≡◌, ◌≢◌, ◌⊎◌, inl, inr, ◌<◌, ◌≤◌, ◌^◌, ℕ, ◌+◌, Bool, true, false, not, Option, Some, None, List, [], ◌∷◌, ◌++◌, take, slice_get, Contains, refl, sym, subst, ap, ◌∙◌, arith}
+use Rattle.std.proofs.Common.{◌≡◌, ℕ, Bool, true, false, Option, Some, None, List, [], ◌∷◌, ◌++◌, take, slice_get, Contains, refl, subst, ap, ◌∙◌}
 use Rattle.std.proofs.lemmas.List.Elements.{Contains-append_left, Contains-push}
-use Rattle.ring_math.specs.Members.{IsClosest, IsPred, IsSucc}
-use Rattle.coverage.specs.Links.{IsNext, HasSide, Side}
+use Rattle.ring_math.specs.Members.{IsPred, IsSucc}
+use Rattle.coverage.specs.Links.{IsNext}
 use Rattle.coverage.specs.GapFiles.{Lists}
-use Rattle.wire_msg.specs.declared.command.Command.{Command as NodeCommand}
 use Rattle.wire_msg.specs.declared.command.Command.TheVariants as command
 use Rattle.wire_msg.specs.declared.reply.Answer.{Answer}
-use Rattle.wire_msg.specs.declared.reply.Answer.TheVariants as answer
 use Rattle.wire_msg.specs.declared.reply.Own.{Own}
 use Rattle.wire_msg.specs.declared.reply.Own.TheVariants as own
-use Rattle.wire_msg.specs.declared.reply.Reply.{Reply}
-use Rattle.wire_msg.specs.declared.reply.Why.{Why}
-use Rattle.wire_msg.specs.Words.{Message, Envelope, Lookup, LookupReply, Insert, InsertReply, Fetch, FetchReply, JoinRequest, JoinReply, JoinRefuse, Probe, ProbeReply, LeaseRequest, Grant, Deny, Handover, Release, Confirm, Announce, Replicate, ReplicaAck, Reclaim, ReclaimReply}
+use Rattle.wire_msg.specs.Words.{Message, Envelope, LookupReply, InsertReply, FetchReply, JoinRefuse, Deny, ReclaimReply}
 use Rattle.overlay_rules.specs.declared.entry.Event.{Event}
 use Rattle.overlay_rules.specs.declared.entry.Event.TheVariants as event
 use Rattle.overlay_rules.specs.declared.entry.Entry.{Entry}
-use Rattle.overlay_rules.specs.State.{State, Phase, Waiting, Asking, Probing, Leasing, Ready, is_ready, is_joining}
-use Rattle.overlay_rules.specs.Outcome.{Outcome, Input, Command, Comes, Noise}
+use Rattle.overlay_rules.specs.State.{State, Phase, Waiting, Asking, Probing, Leasing, Ready, is_ready}
+use Rattle.overlay_rules.specs.Outcome.{Input, Comes}
 use Rattle.overlay_rules.specs.Step.{step}
-use Rattle.overlay_rules.specs.Record.{Setting, IsSetting, World, sent_in, state_at, IsRecord, world_after}
+use Rattle.overlay_rules.specs.Record.{Setting, World, sent_in, state_at, IsRecord, world_after}
 use Rattle.overlay_rules.specs.Ready.{IsReadyIn}
-use Rattle.overlay_rules.specs.Rightly.{WasCommanded, WasJoin, WasAnswered, RightlyStopped, RightlyJoined, RightlyClosed, IsDenial}
-use Rattle.overlay_rules.proofs.Each.{Each, Each-contains, Each-slice_get}
+use Rattle.overlay_rules.specs.Rightly.{WasJoin, WasAnswered, RightlyStopped, RightlyJoined, RightlyClosed, IsDenial}
+use Rattle.overlay_rules.proofs.Each.{Each-slice_get}
 use Rattle.overlay_rules.proofs.Histories.{state_at-itself}
-use Rattle.overlay_rules.proofs.Seat.{Seat, StopCause}
-use Rattle.overlay_rules.proofs.SeatStep.{step_seat}
+use Rattle.overlay_rules.proofs.Seat.{StopCause}
 use Rattle.ring_laws.proofs.Always.{Arrives, commanded, delivered, noised, Takes, stepped}
-use Rattle.ring_laws.proofs.Messages.{ReadyIn, attempt_in, MessagesHold}
+use Rattle.ring_laws.proofs.Messages.{ReadyIn, MessagesHold}
 use Rattle.ring_laws.proofs.Gates.{GatesHold}
 use Rattle.ring_laws.proofs.Sides.{side_of, link_of, short}
 use Rattle.ring_laws.proofs.Ring.{RingHolds, JoinsHold, no_lease}
 use Rattle.ring_laws.proofs.Lookups.{IsReplied, IsBehind, RequestsHold}
 use Rattle.ring_laws.proofs.Causes.{refusal, denial}
-use Rattle.ring_laws.proofs.Closings.{IsJoinOf, Closing, by_reply, by_joining, by_refusal, by_denial, by_giving_up, as_not_begun, as_given_up, as_idle, MessageReplies, InputReplies, AllClose, seat_closes}
+use Rattle.ring_laws.proofs.Closings.{IsJoinOf, Closing, by_reply, by_joining, by_refusal, by_denial, by_giving_up, as_not_begun, as_given_up, as_idle, MessageReplies, InputReplies}
 use Rattle.ring_laws.proofs.JoinNumbers.{PhaseJoins, JoinsCommanded, was_commanded}
 
 -- ---- a joiner becomes ready between its true neighbours

@@ -1,12 +1,11 @@
 -- How a step closes commands: by the reply that came, or by what became of a join. Each note Closed of a step is one of these.
-use Rattle.std.proofs.Common.{◌≡◌, ◌≢◌, ◌⊎◌, inl, inr, ℕ, ◌+◌, suc, Bool, true, false, not, ◌&&◌, ◌==◌, Option, Some, None, List, [], ◌∷◌, ◌++◌, filter, take, drop, position, slice_get, Contains, refl, sym, subst, ap, ◌∙◌, arith, rules}
+use Rattle.std.proofs.Common.{◌≡◌, ℕ, true, false, not, ◌&&◌, ◌==◌, Option, Some, None, List, [], ◌∷◌, ◌++◌, filter, position, slice_get, refl, sym, subst, ap, rules}
 use Rattle.std.proofs.lemmas.Bool.{cond_both}
 use Rattle.ring_math.specs.Bytewise.{same_bytes}
 use Rattle.ring_math.specs.Keys.{key_of}
-use Rattle.ring_math.specs.Sides.{is_in, leaves}
+use Rattle.ring_math.specs.Sides.{is_in}
 use Rattle.ring_math.specs.Files.{Slot, slot_of, with_slot, has_room}
 use Rattle.coverage.specs.GapFiles.{Lists}
-use Rattle.wire_msg.specs.declared.command.Command.{Command as NodeCommand}
 use Rattle.wire_msg.specs.declared.command.Command.TheVariants as command
 use Rattle.wire_msg.specs.declared.note.Note.{Note}
 use Rattle.wire_msg.specs.declared.note.Note.TheVariants as note
@@ -24,14 +23,14 @@ use Rattle.overlay_rules.specs.declared.request.Pending.{Pending}
 use Rattle.overlay_rules.specs.declared.request.Way.{Way}
 use Rattle.overlay_rules.specs.declared.request.Way.TheVariants as way
 use Rattle.overlay_rules.specs.State.{State, Phase, Waiting, Asking, Probing, Leasing, Ready, is_joining}
-use Rattle.overlay_rules.specs.Outcome.{Outcome, Input, Command, Comes, Noise, Sent, nothing, becomes, before, sent, to_both, to_each, replied}
-use Rattle.overlay_rules.specs.Routed.{way_of, one_more, served, on_lookup}
-use Rattle.overlay_rules.specs.Roots.{targets_of, replicated, has_too_few, accepted, inserted, on_insert, is_of, replied_each, emptied, reclaimed, on_reclaim, fetched, on_fetch}
+use Rattle.overlay_rules.specs.Outcome.{Outcome, Input, Command, Comes, Noise, nothing, before}
+use Rattle.overlay_rules.specs.Routed.{way_of, served, on_lookup}
+use Rattle.overlay_rules.specs.Roots.{targets_of, replicated, has_too_few, accepted, inserted, on_insert, is_of, replied_each, emptied, reclaimed, on_reclaim, on_fetch}
 use Rattle.overlay_rules.specs.Replicas.{holding, replicate_at, ack_taken, ack_of, ack_at, awaits, handover_at, on_reply}
 use Rattle.overlay_rules.specs.ReadyTest.{ready_test_in, has_all}
 use Rattle.overlay_rules.specs.Gatekeeper.{cleared, is_left_to, gated_reach}
 use Rattle.overlay_rules.specs.Step.{step, waits_for}
-use Rattle.overlay_rules.proofs.Each.{Each, Each-append, Each-both, Each-weaker}
+use Rattle.overlay_rules.proofs.Each.{Each, Each-append, Each-both}
 use Rattle.overlay_rules.proofs.Seat.{Seat, IsServiceInput, IsServiceNote, IsReply, StopCause}
 use Rattle.overlay_rules.proofs.Seat as row
 

@@ -1,10 +1,10 @@
 -- The second invariant of every legal record, on leases: what they name, whose they are, that Grants stand, and what joiners keep of them.
-use Rattle.std.proofs.Common.{◌≡◌, ◌≢◌, ◌⊎◌, inl, inr, ◌<◌, ◌≤◌, ℕ, Bool, true, false, not, ◌&&◌, ◌==◌, nat_lt, Option, Some, None, List, [], ◌∷◌, ◌++◌, slice_get, Contains, refl, sym, subst, ap, ◌∙◌, arith}
+use Rattle.std.proofs.Common.{◌≡◌, ◌⊎◌, inl, inr, ◌<◌, ◌≤◌, ℕ, Bool, true, false, not, ◌==◌, nat_lt, Option, Some, None, slice_get, Contains, refl, sym, subst, ap, ◌∙◌, arith}
 use Rattle.std.proofs.lemmas.Bool.{cases_Bool, false_from_ne_true, and_parts}
 use Rattle.std.proofs.lemmas.Bool.Decides.{Decides-eqb, nat_tests}
 use Rattle.coverage.specs.GapFiles.{Lists}
 use Rattle.wire_msg.specs.declared.command.Command.{Command as NodeCommand}
-use Rattle.wire_msg.specs.Words.{Message, Envelope, Sent, Lookup, LookupReply, Insert, InsertReply, Fetch, FetchReply, JoinRequest, JoinReply, JoinRefuse, Probe, ProbeReply, LeaseRequest, Grant, Deny, Handover, Release, Confirm, Announce, Replicate, ReplicaAck, Reclaim, ReclaimReply}
+use Rattle.wire_msg.specs.Words.{Message, Envelope, Lookup, LookupReply, Insert, InsertReply, Fetch, FetchReply, JoinRequest, JoinReply, JoinRefuse, Probe, ProbeReply, LeaseRequest, Grant, Deny, Handover, Release, Confirm, Announce, Replicate, ReplicaAck, Reclaim, ReclaimReply}
 use Rattle.overlay_rules.specs.declared.gate.Gate.{Gate}
 use Rattle.overlay_rules.specs.declared.entry.Event.{Event}
 use Rattle.overlay_rules.specs.declared.entry.Entry.{Entry}
@@ -13,16 +13,16 @@ use Rattle.overlay_rules.specs.Outcome.{Outcome, Input, Command, Comes, Noise}
 use Rattle.overlay_rules.specs.Step.{step}
 use Rattle.overlay_rules.specs.Record.{Setting, IsSetting, World, sent_in, state_at, world_at_start}
 use Rattle.overlay_rules.specs.Gates.{is_of, is_older}
-use Rattle.overlay_rules.proofs.Each.{Each, Each-append, Each-both, Each-slice_get, Each-weaker}
+use Rattle.overlay_rules.proofs.Each.{Each, Each-append, Each-slice_get, Each-weaker}
 use Rattle.overlay_rules.proofs.Histories.{sent_in-push, state_at-itself, state_at-each, IsFrom, each_envelope}
 use Rattle.overlay_rules.proofs.Seat.{Seat}
 use Rattle.overlay_rules.proofs.SeatStep.{step_seat}
 use Rattle.ring_laws.proofs.Always.{Arrives, commanded, delivered, noised, Takes, Keeps, Both, keeps_both, stepped}
-use Rattle.ring_laws.proofs.Phases.{Moves, HasLeased, HasLeased-moves, HasLeased-attempt, IsReadyWith, IsReadyWith-ready}
+use Rattle.ring_laws.proofs.Phases.{HasLeased, HasLeased-moves, HasLeased-attempt, IsReadyWith-ready}
 use Rattle.ring_laws.proofs.Told.{Shows}
-use Rattle.ring_laws.proofs.Messages.{ReadyIn, attempt_in, Holds, MessagesHold, messages_keep, moved, ready_stays, attempt_grows}
+use Rattle.ring_laws.proofs.Messages.{attempt_in, Holds, MessagesHold, messages_keep, moved, ready_stays, attempt_grows}
 use Rattle.ring_laws.proofs.Leases.{lease_on, pick, end_in, Fits, LeasesFit, seat_fits, SparedBy, Spares, seat_lasts, GatesBy, Asks, AllGates, seat_gates}
-use Rattle.ring_laws.proofs.Grants.{HasLease, GrantedBy, AllGranted, seat_grants, OnKept, PhaseKept, GrantBrings, MessageBrings, Brings, seat_kept}
+use Rattle.ring_laws.proofs.Grants.{HasLease, GrantedBy, seat_grants, OnKept, PhaseKept, MessageBrings, Brings, seat_kept}
 
 -- a gate's joiner is a node, which leases between its two ends, or is past that
 pub record GateHolds (g : Setting) (states : ℕ → State) (gate : Gate) : Type 0 where
@@ -156,7 +156,7 @@ kept_lasts g w e x i h t y (Ready a l r) le u k = tt
 
 -- ---- a Grant brings the lease of the side that its sender is
 
-pub leased_between : (a l r n x y : ℕ) (fl fr : Option Lists) → HasLeased a l r (Leasing a n x y fl fr) → (l ≡ x) × (r ≡ y)
+leased_between : (a l r n x y : ℕ) (fl fr : Option Lists) → HasLeased a l r (Leasing a n x y fl fr) → (l ≡ x) × (r ≡ y)
 leased_between a l r n x y fl fr (inl h) = (h.1, h.2)
 leased_between a l r n x y fl fr (inr lt) = absurd (omega arith)
 
@@ -170,6 +170,19 @@ to_side s false false lease f at m = at
 to_side s true false lease f at m = other_side s false lease f at m
 to_side s false true lease f at m = other_side s true lease f at m
 
+-- the lease of a joiner names the two that it leases between
+pub lease_ends : (g : Setting) (w : World) (x a n l r : ℕ) (fl fr : Option Lists) (right : Bool) (y : ℕ) (lists : Lists) → GatesHold g w → (w.states x).phase ≡ Leasing a n l r fl fr →
+    (has : HasLease right (w.states y) x a lists) → (has.lease.gate.left ≡ l) × (has.lease.gate.right ≡ r)
+lease_ends g w x a n l r fl fr right y lists k e has = leased_between a has.lease.gate.left has.lease.gate.right n l r fl fr leased where
+  gate : GateHolds g w.states has.lease.gate
+  gate = (k.gates y).each right has.lease has.at
+
+  leased : HasLeased a has.lease.gate.left has.lease.gate.right (Leasing a n l r fl fr)
+  leased =
+      subst (HasLeased a has.lease.gate.left has.lease.gate.right) e
+      (subst (λ z. HasLeased a has.lease.gate.left has.lease.gate.right (w.states z).phase) has.joiner
+      (subst (λ b. HasLeased b has.lease.gate.left has.lease.gate.right (w.states has.lease.gate.joiner).phase) has.attempt gate.leased))
+
 has_side : (g : Setting) (w : World) (x : ℕ) → MessagesHold g w → GatesHold g w → (side : Bool) (from a n l r : ℕ) (fl fr : Option Lists) (lists : Lists) → (w.states x).phase ≡ Leasing a n l r fl fr →
     from ≡ pick (not side) l r → (right : Bool) × HasLease right (w.states from) x a lists → HasLease side (w.states from) x a lists
 has_side g w x h k side from a n l r fl fr lists e f (right, has) = record {
@@ -179,17 +192,8 @@ has_side g w x h k side from a n l r fl fr lists e f (right, has) = record {
   attempt = has.attempt;
   same = has.same;
 } where
-  gate : GateHolds g w.states has.lease.gate
-  gate = (k.gates from).each right has.lease has.at
-
-  leased : HasLeased a has.lease.gate.left has.lease.gate.right (Leasing a n l r fl fr)
-  leased =
-      subst (HasLeased a has.lease.gate.left has.lease.gate.right) e
-      (subst (λ y. HasLeased a has.lease.gate.left has.lease.gate.right (w.states y).phase) has.joiner
-      (subst (λ b. HasLeased b has.lease.gate.left has.lease.gate.right (w.states has.lease.gate.joiner).phase) has.attempt gate.leased))
-
   between : (has.lease.gate.left ≡ l) × (has.lease.gate.right ≡ r)
-  between = leased_between a has.lease.gate.left has.lease.gate.right n l r fl fr leased
+  between = lease_ends g w x a n l r fl fr right from lists k e has
 
   ends : (side : Bool) → end_in (not side) has.lease.gate ≡ pick (not side) l r
   ends true = between.0

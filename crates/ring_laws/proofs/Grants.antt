@@ -1,20 +1,20 @@
 -- Grants and what a joiner keeps of them: while the joiner's attempt stands and it is not ready, the sender of each has the lease that the Grant gave.
-use Rattle.std.proofs.Common.{◌≡◌, ◌≢◌, ◌⊎◌, inl, inr, ◌<◌, ◌≤◌, ℕ, Bool, true, false, not, ◌&&◌, ◌||◌, ◌==◌, if◌then◌else◌, Option, Some, None, List, [], ◌∷◌, refl, sym, subst, ap, ◌∙◌, arith, rules}
+use Rattle.std.proofs.Common.{◌≡◌, inl, inr, ℕ, Bool, true, false, not, ◌&&◌, ◌||◌, ◌==◌, if◌then◌else◌, Option, Some, None, List, [], ◌∷◌, refl, sym, subst, ap, ◌∙◌, rules}
 use Rattle.std.proofs.lemmas.Bool.{cond_both, cond-true, cond-false, cases_Bool, and_parts, or_cases}
-use Rattle.std.proofs.lemmas.Bool.Decides.{Decides-eqb, nat_tests}
+use Rattle.std.proofs.lemmas.Bool.Decides.{Decides-eqb}
 use Rattle.coverage.specs.GapFiles.{Lists}
 use Rattle.wire_msg.specs.Words.{Message, Lookup, LookupReply, Insert, InsertReply, Fetch, FetchReply, JoinRequest, JoinReply, JoinRefuse, Probe, ProbeReply, LeaseRequest, Grant, Deny, Handover, Release, Confirm, Announce, Replicate, ReplicaAck, Reclaim, ReclaimReply}
 use Rattle.ring_math.specs.Ring.{is_between}
-use Rattle.overlay_rules.specs.declared.gate.Gate.{Gate}
 use Rattle.overlay_rules.specs.State.{State, Lease, Phase, Waiting, Asking, Probing, Leasing, Ready, is_ready, bare}
 use Rattle.overlay_rules.specs.Outcome.{Outcome, Input, Command, Comes, Noise, Sent, to_both, to_each}
 use Rattle.overlay_rules.specs.Joining.{kept_first}
-use Rattle.overlay_rules.specs.Gates.{is_of, is_gate_of, is_again, fits, blocked_by}
+use Rattle.overlay_rules.specs.Gates.{is_gate_of, is_again, fits}
 use Rattle.overlay_rules.specs.Gatekeeper.{links_of, cleared, lease_of, lists_of, with_lease}
 use Rattle.overlay_rules.proofs.Each.{Each, Each-append, Each-weaker}
 use Rattle.overlay_rules.proofs.Seat.{Seat, IsService}
 use Rattle.overlay_rules.proofs.Seat as row
 use Rattle.overlay_rules.proofs.SeatStep.{granted_sends, newly_gated_sends, new_lists}
+use Rattle.overlay_rules.proofs.Sends.{Each-to_both, Each-to_each}
 use Rattle.ring_laws.proofs.Leases.{lease_on, pick, new_stands}
 
 -- the lease of joiner i with attempt a, with these lists, stands on that side
@@ -59,11 +59,10 @@ service_granted s to (Grant a manifest tombs) h = absurd h
 service_granted s to _ h = tt
 
 to_both_granted : (s : State) (l r : ℕ) (m : Message) → ((y : ℕ) → GrantedBy s y m) → Each (λ x. GrantedBy s x.receiver x.message) (to_both l r m)
-to_both_granted s l r m h = cond_both (l == r) _ _ (Each (λ x. GrantedBy s x.receiver x.message)) (λ _. (h l, tt)) (λ _. (h l, (h r, tt)))
+to_both_granted s l r m h = Each-to_both (λ x. GrantedBy s x.receiver x.message) l r m h
 
 to_each_granted : (s : State) (ys : List ℕ) (m : Message) → ((y : ℕ) → GrantedBy s y m) → Each (λ x. GrantedBy s x.receiver x.message) (to_each ys m)
-to_each_granted s [] m h = tt
-to_each_granted s (y ∷ ys) m h = (h y, to_each_granted s ys m h)
+to_each_granted s ys m h = Each-to_each (λ x. GrantedBy s x.receiver x.message) ys m h
 
 -- the side of a gate that is found
 found_gate : (right : Bool) (s : State) (from a : ℕ) → is_gate_of from a (bare (lease_on right s)) ≡ true → (lists : Lists) → lists ≡ lists_of (lease_on right s) → HasLease right s from a lists

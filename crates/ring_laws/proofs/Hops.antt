@@ -1,19 +1,18 @@
 -- Hops go nearer: the next hop of a ready node is ready, and nearer to the key.
-use Rattle.std.proofs.Common.{◌≡◌, ◌≢◌, ◌⊎◌, inl, inr, ◌<◌, ◌^◌, ℕ, Bool, true, false, Option, Some, None, List, Contains, refl, sym, subst, ap, ◌∙◌, arith}
+use Rattle.std.proofs.Common.{◌≡◌, ◌≢◌, ◌⊎◌, ◌<◌, ◌^◌, ℕ, true, List, Contains, refl, sym, subst, ap}
 use Rattle.ring_math.specs.Ring.{is_nearer}
 use Rattle.coverage.specs.declared.Hop.{Hop}
 use Rattle.coverage.specs.declared.Hop.TheVariants as hop
 use Rattle.coverage.specs.NextHop.{next_hop_of}
-use Rattle.coverage.proofs.Onward.{CanGoOn, GoesOn, next_hop_goes_on}
+use Rattle.coverage.proofs.Onward.{CanGoOn, next_hop_goes_on}
 use Rattle.overlay_rules.specs.declared.entry.Entry.{Entry}
-use Rattle.overlay_rules.specs.declared.request.Way.{Way}
 use Rattle.overlay_rules.specs.declared.request.Way.TheVariants as way
-use Rattle.overlay_rules.specs.State.{State, Phase, Waiting, Asking, Probing, Leasing, Ready, is_ready, reach}
+use Rattle.overlay_rules.specs.State.{State, Phase, Waiting, Asking, Probing, Leasing, Ready, reach}
 use Rattle.overlay_rules.specs.Routed.{way_by, way_in, way_of}
 use Rattle.overlay_rules.specs.Record.{Setting, IsSetting, World, IsRecord, world_after}
 use Rattle.overlay_rules.specs.Ready.{IsReadyIn}
 use Rattle.overlay_rules.specs.Laws.{HopsGoNearer}
-use Rattle.overlay_rules.proofs.Each.{Each, Each-contains}
+use Rattle.overlay_rules.proofs.Each.{Each-contains}
 use Rattle.ring_laws.proofs.Knows.{PhaseKnows}
 use Rattle.ring_laws.proofs.Linked.{PhaseLinked}
 use Rattle.ring_laws.proofs.Messages.{ReadyIn, MessagesHold, in_ring}

@@ -1,7 +1,6 @@
 -- The fifth invariant of every legal record: the number of a phase is that of a Join command at its node.
-use Rattle.std.proofs.Common.{◌≡◌, ℕ, ◌+◌, ◌==◌, Bool, true, false, Option, Some, None, List, [], ◌∷◌, ◌++◌, Contains, refl, sym, subst, ap, ◌∙◌}
+use Rattle.std.proofs.Common.{◌≡◌, ℕ, ◌==◌, Bool, true, false, List, [], ◌∷◌, ◌++◌, refl, sym, subst, ◌∙◌}
 use Rattle.std.proofs.lemmas.List.Elements.{Contains-append_left, Contains-push}
-use Rattle.coverage.specs.GapFiles.{Lists}
 use Rattle.wire_msg.specs.declared.command.Command.{Command as NodeCommand}
 use Rattle.wire_msg.specs.declared.command.Command.TheVariants as command
 use Rattle.overlay_rules.specs.declared.entry.Event.{Event}
@@ -16,7 +15,7 @@ use Rattle.overlay_rules.proofs.Histories.{state_at-each}
 use Rattle.overlay_rules.proofs.Seat.{Seat}
 use Rattle.overlay_rules.proofs.Seat as row
 use Rattle.overlay_rules.proofs.SeatStep.{step_seat}
-use Rattle.ring_laws.proofs.Always.{Arrives, commanded, delivered, noised, Takes, Keeps, stepped, always}
+use Rattle.ring_laws.proofs.Always.{Arrives, commanded, delivered, noised, Takes, stepped, always}
 
 abbrev pub PhaseJoins : (ℕ → Type 0) → Phase → Type 0
 PhaseJoins P (Asking a n) = P n

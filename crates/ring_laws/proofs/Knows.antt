@@ -1,22 +1,22 @@
 -- What a node knows of the ring is ready: what it learnt, probes, leases or links to, and what messages name. One step keeps it.
-use Rattle.std.proofs.Common.{◌≡◌, ◌≢◌, ◌<◌, ℕ, zero, suc, ◌+◌, Bool, true, false, not, ◌&&◌, ◌||◌, ◌==◌, if◌then◌else◌, nat_lt, Option, Some, None, List, [], ◌∷◌, ◌++◌, filter, map, take, refl, sym, subst, ap, ◌∙◌, arith, ◌⊎◌, inl, inr, rules}
+use Rattle.std.proofs.Common.{◌≡◌, ℕ, Bool, true, ◌==◌, if◌then◌else◌, Option, List, [], ◌∷◌, ◌++◌, map, refl, sym, subst}
 use Rattle.std.proofs.lemmas.Bool.{cond_both}
 use Rattle.std.proofs.lemmas.Bool.Decides.{Decides-eqb}
-use Rattle.ring_math.specs.Sides.{leaves, learn, learn_all}
+use Rattle.ring_math.specs.Sides.{leaves, learn}
 use Rattle.wire_msg.specs.Words.{Message, Lookup, LookupReply, Insert, InsertReply, Fetch, FetchReply, JoinRequest, JoinReply, JoinRefuse, Probe, ProbeReply, LeaseRequest, Grant, Deny, Handover, Release, Confirm, Announce, Replicate, ReplicaAck, Reclaim, ReclaimReply}
 use Rattle.wire_msg.specs.declared.reply.Why.{Why}
 use Rattle.wire_msg.specs.declared.reply.Why.TheVariants as why
 use Rattle.overlay_rules.specs.declared.gate.Gate.{Gate}
 use Rattle.overlay_rules.specs.State.{State, Phase, Waiting, Asking, Probing, Leasing, Ready, is_ready, bare}
 use Rattle.overlay_rules.specs.Outcome.{Outcome, Input, Comes, Command, Noise, Sent, to_both, to_each}
-use Rattle.overlay_rules.specs.Routed.{members}
 use Rattle.overlay_rules.specs.Joining.{unanswered, answered_by, first_left, first_right, learnt_of}
 use Rattle.overlay_rules.specs.Gates.{link_after, is_gate_of}
 use Rattle.overlay_rules.specs.Gatekeeper.{cleared, lists_of}
-use Rattle.overlay_rules.proofs.Each.{Each, Each-append, Each-filter, Each-map, Each-weaker}
+use Rattle.overlay_rules.proofs.Each.{Each, Each-append, Each-filter, Each-weaker}
 use Rattle.overlay_rules.proofs.Seat.{Seat, SameSeat, IsService, AllService}
 use Rattle.overlay_rules.proofs.Seat as row
 use Rattle.overlay_rules.proofs.SeatStep.{granted_sends, newly_gated_sends}
+use Rattle.overlay_rules.proofs.Sends.{Each-to_both, Each-to_each}
 use Rattle.ring_laws.proofs.Learnt.{IsCons, Each-leaves, Each-learn, Each-learn_all, IsCons-learn, IsCons-learn_all, IsCons-known, first_left-known, first_right-known}
 
 -- ---- what a state knows
@@ -105,11 +105,10 @@ both : (R : ℕ → Type 0) (x : ℕ) (ms ns : List Sent) → AllTell R x ms →
 both R x ms ns h t = record { each = Each-append (λ m. Tells R x m.message) ms ns h.each t.each }
 
 to_both_tell : (R : ℕ → Type 0) (x l r : ℕ) (m : Message) → Tells R x m → AllTell R x (to_both l r m)
-to_both_tell R x l r m h = cond_both (l == r) _ _ (AllTell R x) (λ _. more R x _ _ h (none R x)) (λ _. more R x _ _ h (more R x _ _ h (none R x)))
+to_both_tell R x l r m h = record { each = Each-to_both (λ s. Tells R x s.message) l r m (λ y. h) }
 
 to_each_tell : (R : ℕ → Type 0) (x : ℕ) (ys : List ℕ) (m : Message) → Tells R x m → AllTell R x (to_each ys m)
-to_each_tell R x [] m h = none R x
-to_each_tell R x (y ∷ ys) m h = more R x _ _ h (to_each_tell R x ys m h)
+to_each_tell R x ys m h = record { each = Each-to_each (λ s. Tells R x s.message) ys m (λ y. h) }
 
 -- ---- what a step keeps
 

@@ -1,7 +1,7 @@
 -- The leases of a ready node, one definition for both sides: what they name, and what one step makes of them.
-use Rattle.std.proofs.Common.{◌≡◌, ◌≢◌, ◌⊎◌, inl, inr, ℕ, Bool, true, false, not, ◌&&◌, ◌||◌, ◌==◌, if◌then◌else◌, Option, Some, None, List, [], ◌∷◌, refl, sym, subst, ap, ◌∙◌, arith}
-use Rattle.std.proofs.lemmas.Bool.{cond_both, cond-true, cond-false, cases_Bool, and_parts, or_parts}
-use Rattle.std.proofs.lemmas.Bool.Decides.{Decides-eqb, nat_tests}
+use Rattle.std.proofs.Common.{◌≡◌, ◌⊎◌, inl, inr, ℕ, Bool, true, false, not, ◌&&◌, ◌||◌, ◌==◌, Option, Some, None, refl, sym, subst, ap, ◌∙◌}
+use Rattle.std.proofs.lemmas.Bool.{cond-true, cond-false, cases_Bool, and_parts}
+use Rattle.std.proofs.lemmas.Bool.Decides.{Decides-eqb}
 use Rattle.ring_math.specs.Ring.{is_between}
 use Rattle.coverage.specs.Coverage.{or_else}
 use Rattle.coverage.specs.GapFiles.{Lists}
@@ -9,7 +9,7 @@ use Rattle.wire_msg.specs.Words.{Message, Lookup, LookupReply, Insert, InsertRep
 use Rattle.overlay_rules.specs.declared.gate.Gate.{Gate}
 use Rattle.overlay_rules.specs.State.{State, Lease, Phase, Waiting, Asking, Probing, Leasing, Ready, is_ready, bare}
 use Rattle.overlay_rules.specs.Outcome.{Outcome, Input, Command, Comes, Noise}
-use Rattle.overlay_rules.specs.Gates.{Links, is_of, is_older, is_gate_of, unless, busy_with, blocked_by, fits, gate_on, link_after}
+use Rattle.overlay_rules.specs.Gates.{is_of, is_older, unless, busy_with, blocked_by, fits, gate_on, link_after}
 use Rattle.overlay_rules.specs.Gatekeeper.{links_of, unless_lease, without_gates, cleared, confirmed, lease_of, with_lease}
 use Rattle.overlay_rules.proofs.Seat.{Seat, SameSeat}
 use Rattle.overlay_rules.proofs.Seat as row

@@ -1,9 +1,9 @@
 -- What a state shows by itself: it never knows itself, it knows the links of its phase, and a joiner stands strictly between the two that it asks.
-use Rattle.std.proofs.Common.{◌≡◌, ◌≢◌, ◌⊎◌, inl, inr, ◌<◌, ◌≤◌, ◌^◌, ℕ, ◌+◌, Bool, true, false, Option, Some, None, List, [], ◌∷◌, Contains, refl, sym, subst, ap, ◌∙◌, arith}
+use Rattle.std.proofs.Common.{◌≡◌, ◌≢◌, ◌⊎◌, inl, inr, ◌<◌, ◌≤◌, ◌^◌, ℕ, true, Option, Some, List, Contains, subst, arith}
 use Rattle.std.proofs.lemmas.Bool.{cond_both}
 use Rattle.std.proofs.lemmas.Bool.Decides.{nat_tests}
 use Rattle.ring_math.specs.Ring.{cw_of, is_between}
-use Rattle.ring_math.specs.Sides.{learn, learn_all, leaves, first_or, left_side, right_side}
+use Rattle.ring_math.specs.Sides.{learn, first_or, left_side, right_side}
 use Rattle.ring_math.proofs.Distances.{cw_cases, turn_cases, is_between-turn}
 use Rattle.coverage.specs.GapFiles.{Lists}
 use Rattle.wire_msg.specs.declared.reply.Why.{Why}
@@ -11,13 +11,13 @@ use Rattle.wire_msg.specs.declared.reply.Why.TheVariants as why
 use Rattle.overlay_rules.specs.declared.gate.Gate.{Gate}
 use Rattle.overlay_rules.specs.State.{State, Phase, Waiting, Asking, Probing, Leasing, Ready, bare}
 use Rattle.overlay_rules.specs.Outcome.{Outcome, Input}
-use Rattle.overlay_rules.specs.Joining.{first_left, first_right, learnt_of}
+use Rattle.overlay_rules.specs.Joining.{learnt_of}
 use Rattle.overlay_rules.specs.Gates.{link_after, is_gate_of}
 use Rattle.overlay_rules.proofs.Each.{Each, Each-contains, Each-itself}
 use Rattle.overlay_rules.proofs.Seat.{Seat, SameSeat}
 use Rattle.overlay_rules.proofs.Seat as row
 use Rattle.coverage.proofs.Leaves as nearest
-use Rattle.ring_laws.proofs.Learnt.{IsCons, IsCons-learn_all, first_left-known, first_right-known, Contains-learn, Contains-learn_all, learnt_itself, unknown-learn, unknown-learn_all}
+use Rattle.ring_laws.proofs.Learnt.{IsCons, IsCons-learn_all, first_left-known, first_right-known, Contains-learn, learnt_itself, unknown-learn, unknown-learn_all}
 use Rattle.ring_laws.proofs.Knows.{HasSome}
 
 -- the link is me, or I know it

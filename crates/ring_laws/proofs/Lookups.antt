@@ -1,6 +1,6 @@
 -- The fourth invariant of every legal record, on requests: a command's number is its alone, each message and pending insert has its command behind it,
 -- a lookup has taken no more hops than ready nodes are farther from its key, and each reply was noted by the node that sent it.
-use Rattle.std.proofs.Common.{◌≡◌, ◌≢◌, ◌⊎◌, inl, inr, ◌<◌, ◌≤◌, ◌^◌, ℕ, ◌+◌, min, Bool, true, false, ◌&&◌, ◌==◌, Option, Some, None, List, [], ◌∷◌, ◌++◌, slice_get, count_by, All, Contains, refl, sym, subst, ap, ◌∙◌, arith}
+use Rattle.std.proofs.Common.{◌≡◌, inl, inr, ◌<◌, ◌≤◌, ◌^◌, ℕ, Bool, true, ◌&&◌, ◌==◌, List, [], ◌∷◌, ◌++◌, Contains, refl, sym, subst, ap, ◌∙◌, arith}
 use Rattle.std.proofs.lemmas.Bool.{and_parts, and_from}
 use Rattle.std.proofs.lemmas.List.Elements.{All-contains, Contains-append_left, Contains-push, Contains-push_cases}
 use Rattle.ring_math.specs.Ring.{is_nearer}
@@ -10,30 +10,29 @@ use Rattle.wire_msg.specs.declared.command.Command.TheVariants as command
 use Rattle.wire_msg.specs.declared.note.Note.{Note}
 use Rattle.wire_msg.specs.declared.note.Note.TheVariants as note
 use Rattle.wire_msg.specs.declared.reply.Reply.{Reply}
-use Rattle.wire_msg.specs.Words.{Message, Envelope, Sent, Lookup, LookupReply, Insert, InsertReply, Fetch, FetchReply, JoinRequest, JoinReply, JoinRefuse, Probe, ProbeReply, LeaseRequest, Grant, Deny, Handover, Release, Confirm, Announce, Replicate, ReplicaAck, Reclaim, ReclaimReply}
+use Rattle.wire_msg.specs.Words.{Message, Envelope, Lookup, LookupReply, Insert, InsertReply, Fetch, FetchReply, JoinRequest, JoinReply, JoinRefuse, Probe, ProbeReply, LeaseRequest, Grant, Deny, Handover, Release, Confirm, Announce, Replicate, ReplicaAck, Reclaim, ReclaimReply}
 use Rattle.overlay_rules.specs.declared.entry.Event.{Event}
 use Rattle.overlay_rules.specs.declared.entry.Event.TheVariants as event
 use Rattle.overlay_rules.specs.declared.entry.Entry.{Entry}
 use Rattle.overlay_rules.specs.declared.request.Pending.{Pending}
 use Rattle.overlay_rules.specs.declared.request.Way.TheVariants as way
 use Rattle.overlay_rules.specs.State.{State, Phase, Waiting, Asking, Probing, Leasing, Ready, is_ready, start}
-use Rattle.overlay_rules.specs.Outcome.{Outcome, Input, Command, Comes, Noise}
-use Rattle.overlay_rules.specs.Routed.{way_in, way_of, one_more}
+use Rattle.overlay_rules.specs.Outcome.{Outcome, Input}
+use Rattle.overlay_rules.specs.Routed.{way_in}
 use Rattle.overlay_rules.specs.Step.{step}
-use Rattle.overlay_rules.specs.Record.{Setting, IsSetting, World, IsFresh, IsFreshAfter, IsSaidBy, IsRecord, sent_in, state_at, world_at_start, world_after}
+use Rattle.overlay_rules.specs.Record.{Setting, IsSetting, World, IsFresh, IsFreshAfter, IsSaidBy, IsRecord, sent_in, world_at_start, world_after}
 use Rattle.overlay_rules.specs.Ready.{farther}
 use Rattle.overlay_rules.specs.Rightly.{WasCommanded, WasAnswered}
 use Rattle.overlay_rules.proofs.Each.{Each, Each-append, Each-both, Each-slice_get, Each-weaker}
-use Rattle.overlay_rules.proofs.Histories.{sent_in-push, state_at-itself, state_at-each, IsFrom, each_envelope}
-use Rattle.overlay_rules.proofs.Seat.{Seat}
+use Rattle.overlay_rules.proofs.Histories.{sent_in-push, state_at-each, IsFrom, each_envelope}
 use Rattle.overlay_rules.proofs.SeatStep.{step_seat}
 use Rattle.ring_laws.proofs.Always.{Arrives, commanded, delivered, noised, Takes, Keeps, Both, keeps_both, stepped, always}
-use Rattle.ring_laws.proofs.Messages.{ReadyIn, Holds, MessagesHold, ready_stays}
+use Rattle.ring_laws.proofs.Messages.{ReadyIn, MessagesHold, ready_stays}
 use Rattle.ring_laws.proofs.Gates.{GatesHold}
 use Rattle.ring_laws.proofs.Ring.{RingHolds, JoinsHold, joins_keep, joins_at_start}
 use Rattle.ring_laws.proofs.Hops.{hop_goes_nearer}
 use Rattle.ring_laws.proofs.Requests.{Carries, AsksFor, CommandCarries, InputCarries, Requested, PassesOn, seat_requested}
-use Rattle.ring_laws.proofs.Replies.{IsNoted, AllNoted, seat_noted}
+use Rattle.ring_laws.proofs.Replies.{IsNoted, seat_noted}
 
 -- a lookup on its way to a node
 pub record OnTheWay (g : Setting) (w : World) (to o n key hops : ℕ) : Type 0 where

@@ -1,22 +1,22 @@
 -- The first invariant of every legal record: each node is itself, who is ready is a node of the setting, what is known is ready,
 -- and each message that was sent came from a node and shows what it says.
-use Rattle.std.proofs.Common.{◌≡◌, ◌≤◌, ◌<◌, ◌^◌, ℕ, Bool, true, false, ◌==◌, if◌then◌else◌, Option, Some, None, List, [], ◌∷◌, ◌++◌, map, slice_get, Contains, refl, sym, subst, ap, ◌∙◌, inl, inr, arith}
+use Rattle.std.proofs.Common.{◌≡◌, ◌≤◌, ◌<◌, ◌^◌, ℕ, Bool, true, false, ◌==◌, Contains, refl, sym, subst, ap, ◌∙◌, inl}
 use Rattle.std.proofs.lemmas.List.Elements.{All-contains}
 use Rattle.std.proofs.lemmas.Bool.Decides.{Decides-eqb}
-use Rattle.wire_msg.specs.Words.{Message, Envelope, Sent}
+use Rattle.wire_msg.specs.Words.{Envelope}
 use Rattle.overlay_rules.specs.declared.entry.Event.{Event}
 use Rattle.overlay_rules.specs.declared.entry.Entry.{Entry}
-use Rattle.overlay_rules.specs.State.{State, Phase, Waiting, Ready, attempt_of, is_ready, start}
-use Rattle.overlay_rules.specs.Outcome.{Outcome, Input, Command, Comes, Noise}
+use Rattle.overlay_rules.specs.State.{State, attempt_of, is_ready, start}
+use Rattle.overlay_rules.specs.Outcome.{Outcome, Input}
 use Rattle.overlay_rules.specs.Step.{step}
-use Rattle.overlay_rules.specs.Record.{Setting, IsSetting, World, sent_in, state_at, Legal, world_at_start, world_after}
+use Rattle.overlay_rules.specs.Record.{Setting, IsSetting, World, sent_in, state_at, world_at_start}
 use Rattle.overlay_rules.proofs.Each.{Each, Each-append, Each-both, Each-slice_get, Each-weaker}
 use Rattle.overlay_rules.proofs.Histories.{sent_in-push, state_at-itself, state_at-each, IsFrom, each_envelope}
 use Rattle.overlay_rules.proofs.Seat.{Seat}
 use Rattle.overlay_rules.proofs.Seat as row
 use Rattle.overlay_rules.proofs.SeatStep.{step_seat}
-use Rattle.ring_laws.proofs.Always.{Arrives, commanded, delivered, noised, Takes, Keeps, stepped, always}
-use Rattle.ring_laws.proofs.Phases.{Moves, stays, seat_moves, Moves-ready, Moves-attempt, Moves-settled}
+use Rattle.ring_laws.proofs.Always.{Arrives, commanded, delivered, noised, Takes, Keeps, stepped}
+use Rattle.ring_laws.proofs.Phases.{Moves, stays, seat_moves, Moves-ready, Moves-attempt}
 use Rattle.ring_laws.proofs.Told.{Shows, Shows-moves, seat_shows}
 use Rattle.ring_laws.proofs.Knows.{Knows, Tells, InputTells, Kept, seat_knows, Knows-weaker, Tells-weaker, InputTells-weaker}
 use Rattle.ring_laws.proofs.Linked.{Linked, seat_linked}

@@ -1,52 +1,40 @@
 -- What is noted is right: deliveries, answers to lookups, and closings.
-use Rattle.std.proofs.Common.{◌≡◌, ◌≢◌, ◌⊎◌, inl, inr, ◌<◌, ◌≤◌, ◌^◌, ℕ, ◌+◌, Bool, true, false, Option, Some, None, List, [], ◌∷◌, ◌++◌, take, slice_get, Contains, refl, sym, subst, ap, ◌∙◌, arith}
-use Rattle.std.proofs.lemmas.List.Elements.{Contains-append_left, Contains-push}
-use Rattle.ring_math.specs.Members.{IsClosest, IsPred, IsSucc}
+use Rattle.std.proofs.Common.{◌≡◌, ◌<◌, ◌^◌, ℕ, ◌+◌, false, Some, List, Contains, refl, sym, subst, ap, ◌∙◌, arith}
+use Rattle.std.proofs.lemmas.List.Elements.{Contains-push}
 use Rattle.ring_math.proofs.Counts.{farther-fewer}
 use Rattle.coverage.specs.declared.Hop.{Hop}
 use Rattle.coverage.specs.declared.Hop.TheVariants as hop
-use Rattle.coverage.specs.Coverage.{covers_of}
 use Rattle.coverage.specs.NextHop.{next_hop_of}
 use Rattle.coverage.proofs.Onward.{next_hop-here}
-use Rattle.coverage.specs.GapFiles.{Lists}
 use Rattle.wire_msg.specs.declared.command.Command.{Command as NodeCommand}
 use Rattle.wire_msg.specs.declared.command.Command.TheVariants as command
 use Rattle.wire_msg.specs.declared.note.Note.{Note}
 use Rattle.wire_msg.specs.declared.note.Note.TheVariants as note
 use Rattle.wire_msg.specs.declared.reply.Answer.{Answer}
 use Rattle.wire_msg.specs.declared.reply.Answer.TheVariants as answer
-use Rattle.wire_msg.specs.declared.reply.Own.{Own}
-use Rattle.wire_msg.specs.declared.reply.Own.TheVariants as own
 use Rattle.wire_msg.specs.declared.reply.Reply.{Reply}
 use Rattle.wire_msg.specs.declared.reply.Reply.TheVariants as reply
-use Rattle.wire_msg.specs.declared.reply.Why.{Why}
-use Rattle.wire_msg.specs.Words.{Message, Envelope, JoinRefuse, Deny}
-use Rattle.overlay_rules.specs.declared.entry.Event.{Event}
-use Rattle.overlay_rules.specs.declared.entry.Event.TheVariants as event
 use Rattle.overlay_rules.specs.declared.entry.Entry.{Entry}
-use Rattle.overlay_rules.specs.declared.request.Way.{Way}
 use Rattle.overlay_rules.specs.declared.request.Way.TheVariants as way
-use Rattle.overlay_rules.specs.State.{State, Phase, Waiting, Asking, Probing, Leasing, Ready, is_ready, is_joining, reach}
-use Rattle.overlay_rules.specs.Outcome.{Outcome, Input, Command, Comes, Noise}
+use Rattle.overlay_rules.specs.State.{State, Phase, Waiting, Asking, Probing, Leasing, Ready, is_ready, reach}
+use Rattle.overlay_rules.specs.Outcome.{Input}
 use Rattle.overlay_rules.specs.Routed.{way_by, way_in, way_of}
 use Rattle.overlay_rules.specs.Step.{step}
-use Rattle.overlay_rules.specs.Record.{Setting, IsSetting, World, Visit, visit, sent_in, state_at, after, Follows, IsRecord, IsSaidBy, world_after}
-use Rattle.overlay_rules.specs.Ready.{IsReadyIn, farther}
+use Rattle.overlay_rules.specs.Record.{Setting, IsSetting, World, Visit, visit, sent_in, Follows, IsRecord, IsSaidBy, world_after}
 use Rattle.overlay_rules.specs.Laws.{Covers}
-use Rattle.overlay_rules.specs.Rightly.{WasCommanded, RightlyDelivered, ShowsBusy, RightLookupReply, WasJoin, WasAnswered, RightlyReplied, RightlyStopped, RightlyJoined, RightlyClosed, IsDenial, RightLookupNote, LookupsAreRight, EachNote}
+use Rattle.overlay_rules.specs.Rightly.{WasCommanded, RightlyDelivered, ShowsBusy, RightLookupReply, WasAnswered, RightlyReplied, RightlyClosed, RightLookupNote, LookupsAreRight, EachNote}
 use Rattle.overlay_rules.proofs.Each.{Each, Each-contains, Each-from_all, Each-slice_get}
 use Rattle.overlay_rules.proofs.Histories.{follows_at, world_after-next, past_after, state_at-itself}
-use Rattle.overlay_rules.proofs.Seat.{Seat, StopCause}
 use Rattle.overlay_rules.proofs.SeatStep.{step_seat, unready_way}
 use Rattle.ring_laws.specs.Closings.{RightClosing, ClosingsAreRight}
 use Rattle.ring_laws.specs.Hops.{FewerHops, HopsAreFew}
-use Rattle.ring_laws.proofs.Always.{Arrives, commanded, delivered, noised, Takes, stepped, takes, stepped-after}
-use Rattle.ring_laws.proofs.Messages.{ReadyIn, MessagesHold}
+use Rattle.ring_laws.proofs.Always.{Takes, stepped, takes, stepped-after}
+use Rattle.ring_laws.proofs.Messages.{MessagesHold}
 use Rattle.ring_laws.proofs.Ring.{JoinsHold}
 use Rattle.ring_laws.proofs.Owner.{covers_right}
 use Rattle.ring_laws.proofs.Hops.{can_go_on}
-use Rattle.ring_laws.proofs.Requests.{Requested, NoteCarries, Answers, a_lookup, of_files, IsOfFiles, LookupAnswer}
-use Rattle.ring_laws.proofs.Lookups.{OnTheWay, IsBehind, RequestsHold, AllHold, requested, all_hold}
+use Rattle.ring_laws.proofs.Requests.{NoteCarries, Answers, a_lookup, of_files, IsOfFiles, LookupAnswer}
+use Rattle.ring_laws.proofs.Lookups.{OnTheWay, RequestsHold, AllHold, requested, all_hold}
 use Rattle.ring_laws.proofs.Causes.{shows_busy}
 use Rattle.ring_laws.proofs.Closings.{NoteCloses, seat_closes}
 use Rattle.ring_laws.proofs.JoinNumbers.{join_numbers}

@@ -1,13 +1,12 @@
 -- How many times one step closes a command: at most once, and only one that was open or is given by it; what it closes is open no more.
 -- A command is open at its node while its number is that of the phase or waits for a reply.
-use Rattle.std.proofs.Common.{◌≡◌, ◌≢◌, ◌⊎◌, inl, inr, ◌<◌, ◌≤◌, ℕ, ◌+◌, suc, Bool, true, false, not, ◌&&◌, ◌==◌, cond, Option, Some, None, List, [], ◌∷◌, ◌++◌, filter, count_by, Contains, refl, sym, subst, ap, ◌∙◌, arith}
+use Rattle.std.proofs.Common.{◌≡◌, ◌⊎◌, inl, inr, ◌<◌, ◌≤◌, ℕ, ◌+◌, Bool, true, false, not, ◌==◌, cond, Some, List, [], ◌∷◌, ◌++◌, filter, count_by, Contains, refl, sym, subst, ap, ◌∙◌, arith}
 use Rattle.std.proofs.lemmas.Bool.{cases_Bool, cond_both, cond-true, cond-false}
-use Rattle.std.proofs.lemmas.Bool.Decides.{Decides-eqb, nat_tests}
+use Rattle.std.proofs.lemmas.Bool.Decides.{Decides-eqb}
 use Rattle.std.proofs.lemmas.List.Sums.{sum_by-cons, sum_by-append}
 use Rattle.std.proofs.lemmas.List.Elements.{Contains-push_cases}
 use Rattle.ring_math.specs.Sides.{is_in}
 use Rattle.ring_math.proofs.Membership.{Contains-is_in, Contains-from_filter}
-use Rattle.coverage.specs.GapFiles.{Lists}
 use Rattle.wire_msg.specs.declared.command.Command.{Command as NodeCommand}
 use Rattle.wire_msg.specs.declared.command.Command.TheVariants as command
 use Rattle.wire_msg.specs.declared.note.Note.{Note}
@@ -16,9 +15,9 @@ use Rattle.wire_msg.specs.declared.reply.Answer.{Answer}
 use Rattle.wire_msg.specs.declared.reply.Answer.TheVariants as answer
 use Rattle.wire_msg.specs.declared.reply.Reply.{Reply}
 use Rattle.wire_msg.specs.declared.reply.Reply.TheVariants as reply
-use Rattle.wire_msg.specs.Words.{Message, Lookup, LookupReply, Insert, InsertReply, Fetch, FetchReply, JoinRequest, JoinReply, JoinRefuse, Probe, ProbeReply, LeaseRequest, Grant, Deny, Handover, Release, Confirm, Announce, Replicate, ReplicaAck, Reclaim, ReclaimReply}
+use Rattle.wire_msg.specs.Words.{Lookup, LookupReply, Insert, InsertReply, Fetch, FetchReply, JoinRequest, JoinReply, JoinRefuse, Probe, ProbeReply, LeaseRequest, Grant, Deny, Handover, Release, Confirm, Announce, Replicate, ReplicaAck, Reclaim, ReclaimReply}
 use Rattle.overlay_rules.specs.declared.request.Pending.{Pending}
-use Rattle.overlay_rules.specs.State.{State, Phase, Waiting, Asking, Probing, Leasing, Ready}
+use Rattle.overlay_rules.specs.State.{State, Phase, Asking, Probing, Leasing}
 use Rattle.overlay_rules.specs.Outcome.{Outcome, Input, Command, Comes, Noise, Sent, nothing, becomes}
 use Rattle.overlay_rules.specs.Roots.{replied_each}
 use Rattle.overlay_rules.specs.Replicas.{on_reply}

@@ -1,29 +1,22 @@
 -- The sixth invariant of every legal record: no command is closed twice. A command that is open has no note Closed yet, and what is closed was given.
-use Rattle.std.proofs.Common.{◌≡◌, ◌≢◌, ◌⊎◌, inl, inr, ◌<◌, ◌≤◌, ℕ, ◌+◌, Bool, true, false, ◌==◌, Option, Some, None, List, [], ◌∷◌, ◌++◌, take, length, Contains, take_all, append-nil, refl, sym, subst, ap, ◌∙◌, arith}
+use Rattle.std.proofs.Common.{◌≡◌, ◌≢◌, ◌⊎◌, inl, inr, ◌<◌, ◌≤◌, ℕ, ◌+◌, Bool, ◌==◌, List, [], ◌∷◌, ◌++◌, length, Contains, take_all, append-nil, refl, sym, subst, ap, ◌∙◌, arith}
 use Rattle.std.proofs.lemmas.Bool.{cases_eq, cases_lt}
 use Rattle.std.proofs.lemmas.List.Elements.{Contains-append_left, Contains-push}
 use Rattle.std.proofs.lemmas.List.Concat.{flat_map-append}
 use Rattle.wire_msg.specs.declared.command.Command.{Command as NodeCommand}
 use Rattle.wire_msg.specs.declared.command.Command.TheVariants as command
-use Rattle.wire_msg.specs.declared.note.Note.{Note}
-use Rattle.overlay_rules.specs.declared.entry.Event.{Event}
-use Rattle.overlay_rules.specs.declared.entry.Event.TheVariants as event
 use Rattle.overlay_rules.specs.declared.entry.Entry.{Entry}
-use Rattle.overlay_rules.specs.State.{State, Phase, Waiting, Asking, Probing, Leasing, Ready, start}
+use Rattle.overlay_rules.specs.State.{State, start}
 use Rattle.overlay_rules.specs.Outcome.{Outcome, Input, Command, Comes, Noise}
 use Rattle.overlay_rules.specs.Step.{step}
-use Rattle.overlay_rules.specs.Record.{Setting, IsSetting, World, IsRecord, state_at, world_at_start, world_after}
+use Rattle.overlay_rules.specs.Record.{Setting, IsSetting, World, IsRecord, world_at_start}
 use Rattle.overlay_rules.specs.Table.{notes_in}
-use Rattle.overlay_rules.specs.Rightly.{WasCommanded, WasJoin, ClosedOnce}
+use Rattle.overlay_rules.specs.Rightly.{WasCommanded, ClosedOnce}
 use Rattle.overlay_rules.proofs.Histories.{state_at-itself, state_at-other, state_at-each, past_after}
 use Rattle.overlay_rules.proofs.SeatStep.{step_seat}
-use Rattle.ring_laws.proofs.Always.{Arrives, commanded, delivered, noised, Takes, Keeps, Both, keeps_both, stepped, always}
-use Rattle.ring_laws.proofs.Messages.{MessagesHold}
-use Rattle.ring_laws.proofs.Gates.{GatesHold}
-use Rattle.ring_laws.proofs.Ring.{RingHolds}
+use Rattle.ring_laws.proofs.Always.{Takes, Keeps, Both, keeps_both, stepped, always}
 use Rattle.ring_laws.proofs.Lookups.{RequestsHold, AllHold, arrives_fresh, requests_keep, all_at_start}
-use Rattle.ring_laws.proofs.Closings.{IsJoinOf}
-use Rattle.ring_laws.proofs.JoinNumbers.{PhaseJoins, JoinsCommanded, was_commanded, joins_keep_numbers, joins_at_the_start}
+use Rattle.ring_laws.proofs.JoinNumbers.{JoinsCommanded, was_commanded, joins_keep_numbers, joins_at_the_start}
 use Rattle.ring_laws.proofs.Closed.{join_was}
 use Rattle.ring_laws.proofs.Numbers.{closings, closings-append, IsGiven, IsRequest, IsAsked, asked_given, IsOpen, IsApart, Counted, seat_counted}
 

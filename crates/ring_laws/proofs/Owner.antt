@@ -1,14 +1,13 @@
 -- One owner for each key: what the ring says, in the words of the laws.
-use Rattle.std.proofs.Common.{◌≡◌, ◌≢◌, ◌⊎◌, inl, inr, ◌<◌, ◌^◌, ℕ, Bool, true, false, Option, Some, None, List, Contains, refl, sym, subst, ap, ◌∙◌, arith}
+use Rattle.std.proofs.Common.{◌≡◌, ◌⊎◌, inl, inr, ◌<◌, ◌^◌, ℕ, Bool, true, false, Option, Some, None, List, refl, sym, subst, ap, ◌∙◌}
 use Rattle.std.proofs.lemmas.Bool.{false_from_ne_true}
 use Rattle.ring_math.specs.Members.{IsClosest}
-use Rattle.coverage.specs.declared.Reach.{Reach}
 use Rattle.coverage.specs.Coverage.{covers_of, in_gap_of}
 use Rattle.coverage.specs.Links as links
 use Rattle.coverage.specs.Links.{reach_of, KeepsFor as Keeps}
 use Rattle.coverage.proofs.RingSteps.{ring_one, ring_right, ring_owned}
 use Rattle.overlay_rules.specs.declared.entry.Entry.{Entry}
-use Rattle.overlay_rules.specs.State.{State, Lease, Phase, Ready, attempt_of, is_ready, reach, joiner_of}
+use Rattle.overlay_rules.specs.State.{State, Lease, Phase, Ready, is_ready, reach, joiner_of}
 use Rattle.overlay_rules.specs.Record.{Setting, World, IsRecord, world_after}
 use Rattle.overlay_rules.specs.Ready.{IsReadyIn}
 use Rattle.overlay_rules.specs.Laws.{Covers, KeepsFor, OneCovers, ClosestCovers}

@@ -1,5 +1,5 @@
 -- How the phase of a node may change in one step, and what of it lasts: a ready node stays ready, and attempts only grow.
-use Rattle.std.proofs.Common.{◌≡◌, ◌≤◌, ◌<◌, ◌⊎◌, inl, inr, ℕ, ◌+◌, Bool, true, false, Option, Some, None, List, refl, sym, subst, arith}
+use Rattle.std.proofs.Common.{◌≡◌, ◌≤◌, ◌<◌, ◌⊎◌, inr, ℕ, ◌+◌, Bool, true, Option, Some, None, List, refl, sym, subst, arith}
 use Rattle.coverage.specs.GapFiles.{Lists}
 use Rattle.overlay_rules.specs.State.{State, Phase, Waiting, Asking, Probing, Leasing, Ready, attempt_of, is_ready}
 use Rattle.overlay_rules.specs.Outcome.{Outcome, Input}

@@ -1,12 +1,11 @@
 -- Each reply that a step sends is noted by it: a reply message to an origin goes with the note Answered of that origin, number and reply.
-use Rattle.std.proofs.Common.{◌≡◌, ℕ, suc, Bool, true, false, not, ◌&&◌, ◌==◌, if◌then◌else◌, Option, Some, None, List, [], ◌∷◌, ◌++◌, filter, take, drop, position, slice_get, Contains, refl, sym, subst, arith}
+use Rattle.std.proofs.Common.{◌≡◌, ℕ, not, ◌&&◌, ◌==◌, if◌then◌else◌, Option, Some, None, List, [], ◌∷◌, ◌++◌, filter, position, slice_get, Contains, refl, sym, subst, arith}
 use Rattle.std.proofs.lemmas.Bool.{cond_both}
 use Rattle.std.proofs.lemmas.List.Elements.{Contains-append_left, Contains-append_right}
 use Rattle.ring_math.specs.Bytewise.{same_bytes}
 use Rattle.ring_math.specs.Keys.{key_of}
 use Rattle.ring_math.specs.Sides.{is_in, leaves}
 use Rattle.ring_math.specs.Files.{Slot, slot_of, with_slot, has_room}
-use Rattle.coverage.specs.GapFiles.{Lists}
 use Rattle.wire_msg.specs.declared.command.Command.TheVariants as command
 use Rattle.wire_msg.specs.declared.note.Note.{Note}
 use Rattle.wire_msg.specs.declared.note.Note.TheVariants as note
@@ -20,9 +19,9 @@ use Rattle.overlay_rules.specs.declared.request.Pending.{Pending}
 use Rattle.overlay_rules.specs.declared.request.Way.{Way}
 use Rattle.overlay_rules.specs.declared.request.Way.TheVariants as way
 use Rattle.overlay_rules.specs.State.{State, Phase, Waiting, Asking, Probing, Leasing, Ready}
-use Rattle.overlay_rules.specs.Outcome.{Outcome, Input, Command, Comes, Noise, Sent, nothing, becomes, before, sent, to_both, to_each, replied, reply_message}
+use Rattle.overlay_rules.specs.Outcome.{Outcome, Input, Command, Comes, Noise, Sent, nothing, becomes, before, to_both, to_each, replied, reply_message}
 use Rattle.overlay_rules.specs.Routed.{way_of, one_more, served, on_lookup}
-use Rattle.overlay_rules.specs.Roots.{targets_of, replicated, has_too_few, accepted, inserted, on_insert, is_of, replied_each, emptied, reclaimed, on_reclaim, fetched, on_fetch}
+use Rattle.overlay_rules.specs.Roots.{targets_of, replicated, has_too_few, accepted, inserted, on_insert, is_of, replied_each, emptied, reclaimed, on_reclaim, on_fetch}
 use Rattle.overlay_rules.specs.Replicas.{holding, replicate_at, ack_taken, ack_of, ack_at, awaits, handover_at, on_reply}
 use Rattle.overlay_rules.specs.ReadyTest.{ready_test_in, has_all}
 use Rattle.overlay_rules.specs.Gatekeeper.{cleared, is_left_to, gated_reach, newly_gated, granted, lists_of}

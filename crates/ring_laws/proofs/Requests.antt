@@ -1,14 +1,12 @@
 -- Requests and what answers them: each message, pending insert, delivery and answer of a step is that of the command behind it.
 -- Q says of a command of lookups and files what it is, L of a lookup on its way to a node what it shows.
-use Rattle.std.proofs.Common.{◌≡◌, ◌≢◌, ◌⊎◌, inl, inr, ℕ, suc, Bool, true, false, not, ◌&&◌, ◌==◌, nat_lt, if◌then◌else◌, Option, Some, None, List, [], ◌∷◌, ◌++◌, filter, take, drop, length, position, slice_get, Contains, refl, sym, subst, ap, ◌∙◌, arith, rules}
+use Rattle.std.proofs.Common.{◌≡◌, ℕ, suc, not, ◌&&◌, ◌==◌, if◌then◌else◌, Option, Some, None, List, [], ◌∷◌, ◌++◌, filter, take, position, slice_get, Contains, refl, sym, subst, arith}
 use Rattle.std.proofs.lemmas.Bool.{cond_both}
-use Rattle.std.proofs.lemmas.List.Elements.{Contains-append_left, Contains-append_right}
 use Rattle.ring_math.specs.Bytewise.{same_bytes}
 use Rattle.ring_math.specs.Keys.{key_of}
 use Rattle.ring_math.specs.Sides.{is_in}
 use Rattle.ring_math.specs.Files.{Slot, slot_of, with_slot, has_room}
 use Rattle.ring_math.specs.declared.file.Held.{Held}
-use Rattle.coverage.specs.GapFiles.{Lists}
 use Rattle.wire_msg.specs.declared.command.Command.{Command as NodeCommand}
 use Rattle.wire_msg.specs.declared.command.Command.TheVariants as command
 use Rattle.wire_msg.specs.declared.note.Note.{Note}
@@ -22,9 +20,9 @@ use Rattle.overlay_rules.specs.declared.request.Pending.{Pending}
 use Rattle.overlay_rules.specs.declared.request.Way.{Way}
 use Rattle.overlay_rules.specs.declared.request.Way.TheVariants as way
 use Rattle.overlay_rules.specs.State.{State, Phase, Waiting, Asking, Probing, Leasing, Ready}
-use Rattle.overlay_rules.specs.Outcome.{Outcome, Input, Command, Comes, Noise, Sent, nothing, becomes, before, sent, to_both, to_each, replied, reply_message}
+use Rattle.overlay_rules.specs.Outcome.{Outcome, Input, Command, Comes, Noise, nothing, before, to_both, to_each, replied, reply_message}
 use Rattle.overlay_rules.specs.Routed.{way_of, one_more, served, on_lookup}
-use Rattle.overlay_rules.specs.Roots.{is_ask, with_ask, targets_of, replicated, has_too_few, accepted, inserted, on_insert, is_of, replied_each, emptied, reclaimed, on_reclaim, fetched, on_fetch}
+use Rattle.overlay_rules.specs.Roots.{is_ask, targets_of, replicated, has_too_few, accepted, inserted, on_insert, is_of, replied_each, emptied, reclaimed, on_reclaim, fetched, on_fetch}
 use Rattle.overlay_rules.specs.Replicas.{holding, replicate_at, ack_taken, ack_of, ack_at, awaits, handover_at, on_reply}
 use Rattle.overlay_rules.specs.ReadyTest.{ready_test_in, has_all}
 use Rattle.overlay_rules.specs.Gatekeeper.{cleared, is_left_to, gated_reach, newly_gated, granted, handovers, with_handover, lists_of}
@@ -32,7 +30,8 @@ use Rattle.overlay_rules.specs.Step.{step, waits_for}
 use Rattle.overlay_rules.proofs.Each.{Each, Each-append, Each-drop, Each-filter, Each-slice_get, Each-take, Each-weaker}
 use Rattle.overlay_rules.proofs.Seat.{Seat, IsService, IsServiceInput}
 use Rattle.overlay_rules.proofs.Seat as row
-use Rattle.overlay_rules.proofs.SeatStep.{handovers_service, new_lists}
+use Rattle.overlay_rules.proofs.Sends.{Each-to_both, Each-to_each, Each-handovers}
+use Rattle.overlay_rules.proofs.SeatStep.{new_lists}
 
 -- ---- what messages, pending inserts and notes show
 
@@ -152,11 +151,10 @@ module _ (Q : ℕ → ℕ → NodeCommand → Type 0) (L : ℕ → ℕ → ℕ �
   reply_carries asked.Reclaim to n r = tt
 
   to_both_carries : (l r : ℕ) (m : Message) → ((y : ℕ) → Carries Q L y m) → Each (λ x. Carries Q L x.receiver x.message) (to_both l r m)
-  to_both_carries l r m h = cond_both (l == r) _ _ (Each (λ x. Carries Q L x.receiver x.message)) (λ _. (h l, tt)) (λ _. (h l, (h r, tt)))
+  to_both_carries l r m h = Each-to_both (λ x. Carries Q L x.receiver x.message) l r m h
 
   to_each_carries : (ys : List ℕ) (m : Message) → ((y : ℕ) → Carries Q L y m) → Each (λ x. Carries Q L x.receiver x.message) (to_each ys m)
-  to_each_carries [] m h = tt
-  to_each_carries (y ∷ ys) m h = (h y, to_each_carries ys m h)
+  to_each_carries ys m h = Each-to_each (λ x. Carries Q L x.receiver x.message) ys m h
 
   -- the answer to a command on a file, and nothing else
   answered : (t : State) (what : Asked) (o n : ℕ) (r : Reply) (c : NodeCommand) → IsOfFiles c → Q o n c → Each (AsksFor Q) t.pending → OfFiles Q L (replied t what o n r)
@@ -324,12 +322,7 @@ module _ (Q : ℕ → ℕ → NodeCommand → Type 0) (L : ℕ → ℕ → ℕ �
   -- ---- every row
 
   handovers_carry : (to : ℕ) (files : List Held) (manifest : List (List ℕ)) → Each (λ m. Carries Q L m.receiver m.message) (handovers to files manifest)
-  handovers_carry to files [] = tt
-  handovers_carry to files (f ∷ fs) = one (slot_of files f) (handovers_carry to files fs) where
-    one : (h : Option Slot) → Each (λ m. Carries Q L m.receiver m.message) (handovers to files fs) → Each (λ m. Carries Q L m.receiver m.message) (with_handover to f h (handovers to files fs))
-    one (Some (Some bytes)) rest = (tt, rest)
-    one (Some None) rest = rest
-    one None rest = rest
+  handovers_carry to files manifest = Each-handovers (λ m. Carries Q L m.receiver m.message) to files manifest (λ f b. tt)
 
   joins : (s : State) (o : Outcome) → Each (λ m. Carries Q L m.receiver m.message) o.sends → Each (AsksFor Q) o.state.pending → Each (FileNote Q) o.notes → Requested Q L s o
   joins s o f g h = from_files s o (record { sends = f; pending = g; notes = h })

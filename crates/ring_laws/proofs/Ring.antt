@@ -1,30 +1,26 @@
 -- The third invariant of every legal record: links and gates of the ready nodes are those of a ring, so each arc ends at the true neighbour or at a joiner before it.
-use Rattle.std.proofs.Common.{◌≡◌, ◌≢◌, ◌⊎◌, inl, inr, ◌<◌, ◌≤◌, ◌^◌, ℕ, Bool, true, false, not, ◌==◌, Option, Some, None, List, [], ◌∷◌, ◌++◌, Contains, refl, sym, subst, ap, ◌∙◌, arith}
-use Rattle.std.proofs.lemmas.Bool.{cases_eq}
+use Rattle.std.proofs.Common.{◌≡◌, inl, inr, ℕ, Bool, true, false, not, ◌==◌, Option, Some, None, Contains, refl, sym, subst, ap, ◌∙◌}
 use Rattle.std.proofs.lemmas.Bool.Decides.{Decides-eqb}
-use Rattle.ring_math.specs.Members.{InRing, with}
-use Rattle.coverage.specs.Links as links
+use Rattle.ring_math.specs.Members.{with}
 use Rattle.coverage.specs.Links.{Side, HasSide, IsRing}
-use Rattle.coverage.proofs.Gates.{StaysSame}
-use Rattle.coverage.proofs.RingSteps.{ring_founded, ring_stays, Joins, ring_joined}
+use Rattle.coverage.proofs.RingSteps.{ring_founded, ring_stays, ring_joined, Joins}
 use Rattle.coverage.specs.GapFiles.{Lists}
 use Rattle.wire_msg.specs.Words.{Message, LeaseRequest, Release, Confirm}
 use Rattle.overlay_rules.specs.declared.entry.Entry.{Entry}
 use Rattle.overlay_rules.specs.State.{State, Lease, Phase, Waiting, Asking, Probing, Leasing, Ready, attempt_of, is_ready, start}
-use Rattle.overlay_rules.specs.Outcome.{Outcome, Input, Command, Comes, Noise}
+use Rattle.overlay_rules.specs.Outcome.{Outcome, Input}
 use Rattle.overlay_rules.specs.Step.{step}
-use Rattle.overlay_rules.specs.Record.{Setting, IsSetting, World, state_at, Legal, world_at_start, world_after}
+use Rattle.overlay_rules.specs.Record.{Setting, IsSetting, World, state_at, world_at_start}
 use Rattle.overlay_rules.proofs.Histories.{state_at-itself, state_at-other, state_at-each}
-use Rattle.overlay_rules.proofs.Seat.{Seat}
 use Rattle.overlay_rules.proofs.SeatStep.{step_seat}
-use Rattle.ring_laws.proofs.Always.{Takes, Keeps, Both, keeps_both, stepped, always}
-use Rattle.ring_laws.proofs.Phases.{HasLeased, HasLeased-attempt, IsReadyWith, IsReadyWith-ready, Moves-settled}
+use Rattle.ring_laws.proofs.Always.{Takes, Keeps, Both, keeps_both, stepped}
+use Rattle.ring_laws.proofs.Phases.{HasLeased, HasLeased-attempt, IsReadyWith-ready, Moves-settled}
 use Rattle.ring_laws.proofs.Told.{Shows}
 use Rattle.ring_laws.proofs.Knows.{PhaseKnows}
-use Rattle.ring_laws.proofs.Leases.{lease_on, pick, end_in, IsLinkOf, LeasesFit, gate_ready}
+use Rattle.ring_laws.proofs.Leases.{lease_on, end_in, IsLinkOf, LeasesFit, gate_ready}
 use Rattle.ring_laws.proofs.Grants.{HasLease, Becomes, is_same, is_new, seat_becomes}
-use Rattle.ring_laws.proofs.Messages.{ReadyIn, attempt_in, Holds, MessagesHold, messages_at_start, in_ring, moved, ready_stays, attempt_grows}
-use Rattle.ring_laws.proofs.Gates.{GateHolds, GatesHold, gates_keep, gates_at_start, by_message, brings, leased_between}
+use Rattle.ring_laws.proofs.Messages.{ReadyIn, attempt_in, MessagesHold, messages_at_start, in_ring, moved, ready_stays, attempt_grows}
+use Rattle.ring_laws.proofs.Gates.{GateHolds, GatesHold, gates_keep, gates_at_start, by_message, brings, lease_ends}
 use Rattle.ring_laws.proofs.Sides.{short, link_of, side_of, MessageKeeps, InputKeeps, seat_sides}
 
 abbrev pub sides_in : (ℕ → State) → ℕ → Bool → Side
@@ -76,19 +72,6 @@ ring_kept g w e x i set h k t same =
 
 -- ---- one node becomes ready
 
--- the lease of a joiner names the two that it leases between
-lease_ends : (g : Setting) (w : World) (x a n l r : ℕ) (fl fr : Option Lists) (right : Bool) (y : ℕ) (lists : Lists) → GatesHold g w → (w.states x).phase ≡ Leasing a n l r fl fr →
-    (has : HasLease right (w.states y) x a lists) → (has.lease.gate.left ≡ l) × (has.lease.gate.right ≡ r)
-lease_ends g w x a n l r fl fr right y lists k e has = leased_between a has.lease.gate.left has.lease.gate.right n l r fl fr leased where
-  gate : GateHolds g w.states has.lease.gate
-  gate = (k.gates y).each right has.lease has.at
-
-  leased : HasLeased a has.lease.gate.left has.lease.gate.right (Leasing a n l r fl fr)
-  leased =
-      subst (HasLeased a has.lease.gate.left has.lease.gate.right) e
-      (subst (λ z. HasLeased a has.lease.gate.left has.lease.gate.right (w.states z).phase) has.joiner
-      (subst (λ b. HasLeased b has.lease.gate.left has.lease.gate.right (w.states has.lease.gate.joiner).phase) has.attempt gate.leased))
-
 is_link : (right : Bool) (p : Phase) (y : ℕ) → IsLinkOf right p y → link_of right p ≡ y
 is_link right (Ready a l r) y e = sym e
 is_link right (Waiting a) y e = absurd e
@@ -119,18 +102,7 @@ ring_grown : (g : Setting) (w : World) (e : Entry) (x : ℕ) (i : Input) (a n l 
     (step (w.states x) i).state.left_gate ≡ (w.states x).left_gate → (step (w.states x) i).state.right_gate ≡ (w.states x).right_gate →
     IsRing (ReadyIn (state_at w.states x (step (w.states x) i).state)) (attempt_in (state_at w.states x (step (w.states x) i).state)) (sides_in (state_at w.states x (step (w.states x) i).state))
 ring_grown g w e x i a n l r fl fr left right set h k q t was now has_left has_right same_left same_right =
-    ring_joined {P = P} {Q = ReadyIn after} {before = attempt_in w.states} {after = attempt_in after} {old = sides_in w.states} {i = x} {a = a} {holder = holder_of l r} (sides_in after) q.ring (record {
-      bound = in_ring g set x t.member;
-      absent = absent;
-      there = λ z. there z;
-      back = λ z ready. state_at-each (λ y (s : State). is_ready s.phase ≡ true → with P x y) w.states x o.state z (λ _. inr refl) (λ p. inl p) ready;
-      attempt = ap (λ (s : State). attempt_of s.phase) here ∙ ap attempt_of now;
-      grows = λ z. attempt_grows w.states x i z;
-      kept = λ z p. Moves-settled _ _ (moved w.states x i z) p;
-      held = held;
-      link = link;
-      gate = gate;
-    }) others mine where
+    ring_joined (sides_in after) q.ring joins others mine where
       o : Outcome
       o = step (w.states x) i
 
@@ -177,6 +149,20 @@ ring_grown g w e x i a n l r fl fr left right set h k q t was now has_left has_r
 
       mine : (side : Bool) → sides_in after x side ≡ record { link = holder_of l r (not side); gate = None }
       mine side = ap (λ s. side_of s side) here ∙ new_side side
+
+      joins : Joins P (ReadyIn after) (attempt_in w.states) (attempt_in after) (sides_in w.states) x a (holder_of l r)
+      joins = record {
+        bound = in_ring g set x t.member;
+        absent = absent;
+        there = λ z. there z;
+        back = λ z ready. state_at-each (λ y (s : State). is_ready s.phase ≡ true → with P x y) w.states x o.state z (λ _. inr refl) (λ p. inl p) ready;
+        attempt = ap (λ (s : State). attempt_of s.phase) here ∙ ap attempt_of now;
+        grows = λ z. attempt_grows w.states x i z;
+        kept = λ z p. Moves-settled _ _ (moved w.states x i z) p;
+        held = held;
+        link = link;
+        gate = gate;
+      }
 
 -- ---- one step keeps the ring
 

@@ -1,7 +1,7 @@
 -- The sides of a ready node, as the laws of coverage speak of them, and what one step makes of them.
-use Rattle.std.proofs.Common.{◌≡◌, ◌≢◌, ◌⊎◌, inl, inr, ◌<◌, ◌≤◌, ◌^◌, ℕ, Bool, true, false, not, ◌&&◌, ◌||◌, ◌==◌, if◌then◌else◌, Option, Some, None, refl, sym, subst, ap, ◌∙◌, arith}
-use Rattle.std.proofs.lemmas.Bool.{cases_Bool, cond_both, cond-true, cond-false, and_parts}
-use Rattle.std.proofs.lemmas.Bool.Decides.{Decides-eqb, nat_tests}
+use Rattle.std.proofs.Common.{◌≡◌, inl, inr, ◌<◌, ◌≤◌, ◌^◌, ℕ, Bool, true, false, not, ◌&&◌, ◌||◌, ◌==◌, Option, Some, None, refl, sym, subst, ap, ◌∙◌}
+use Rattle.std.proofs.lemmas.Bool.{cases_Bool, cond-true, cond-false, and_parts}
+use Rattle.std.proofs.lemmas.Bool.Decides.{Decides-eqb}
 use Rattle.ring_math.specs.Ring.{is_between}
 use Rattle.ring_math.specs.Members.{InRing}
 use Rattle.coverage.specs.Links as links
@@ -10,14 +10,14 @@ use Rattle.coverage.proofs.Gates.{side_granted}
 use Rattle.coverage.proofs.Rows as rows
 use Rattle.coverage.specs.GapFiles.{Lists}
 use Rattle.wire_msg.specs.Words.{Message, Lookup, LookupReply, Insert, InsertReply, Fetch, FetchReply, JoinRequest, JoinReply, JoinRefuse, Probe, ProbeReply, LeaseRequest, Grant, Deny, Handover, Release, Confirm, Announce, Replicate, ReplicaAck, Reclaim, ReclaimReply}
-use Rattle.overlay_rules.specs.State.{State, Lease, Phase, Waiting, Asking, Probing, Leasing, Ready, attempt_of, is_ready, bare}
+use Rattle.overlay_rules.specs.State.{State, Lease, Phase, Waiting, Asking, Probing, Leasing, Ready, is_ready, bare}
 use Rattle.overlay_rules.specs.Outcome.{Outcome, Input, Command, Comes, Noise}
 use Rattle.overlay_rules.specs.Gates.{is_of, is_older, gate_on, link_after, fits, blocked_by}
 use Rattle.overlay_rules.specs.Gatekeeper.{links_of, unless_lease, without_gates, cleared, confirmed, lease_of, with_lease}
 use Rattle.overlay_rules.proofs.Seat.{Seat, SameSeat}
 use Rattle.overlay_rules.proofs.Seat as row
 use Rattle.overlay_rules.proofs.SeatStep.{new_lists}
-use Rattle.ring_laws.proofs.Leases.{lease_on, pick, IsFree, free_side}
+use Rattle.ring_laws.proofs.Leases.{lease_on, pick, free_side}
 
 -- a lease without its ends and lists
 abbrev pub short : Option Lease → Option links.Lease

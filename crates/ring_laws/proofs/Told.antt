@@ -1,15 +1,16 @@
 -- What the sender of a message shows by its phase once it has sent it, and ever after:
 -- of a Release that it is past the attempt, of a Confirm that it is ready with it, of a LeaseRequest that it is leasing, or ready, or past it.
-use Rattle.std.proofs.Common.{◌≡◌, ◌≤◌, ◌<◌, ℕ, ◌+◌, ◌⊎◌, inl, inr, Option, Some, None, List, [], ◌∷◌, ◌++◌, ◌==◌, if◌then◌else◌, refl, sym, subst, arith, rules}
+use Rattle.std.proofs.Common.{◌<◌, ℕ, ◌+◌, inl, None, List, [], ◌∷◌, ◌++◌, ◌==◌, if◌then◌else◌, refl, arith, rules}
 use Rattle.std.proofs.lemmas.Bool.{cond_both}
 use Rattle.wire_msg.specs.Words.{Message, Lookup, LookupReply, Insert, InsertReply, Fetch, FetchReply, JoinRequest, JoinReply, JoinRefuse, Probe, ProbeReply, LeaseRequest, Grant, Deny, Handover, Release, Confirm, Announce, Replicate, ReplicaAck, Reclaim, ReclaimReply}
-use Rattle.overlay_rules.specs.State.{State, Phase, Waiting, Asking, Probing, Leasing, Ready, attempt_of}
+use Rattle.overlay_rules.specs.State.{State, Phase, Waiting, Leasing, Ready, attempt_of}
 use Rattle.overlay_rules.specs.Outcome.{Outcome, Input, Sent, to_both, to_each}
 use Rattle.overlay_rules.specs.Gatekeeper.{cleared, lists_of}
 use Rattle.overlay_rules.proofs.Each.{Each, Each-append, Each-weaker}
 use Rattle.overlay_rules.proofs.Seat.{Seat, IsService, AllService}
 use Rattle.overlay_rules.proofs.Seat as row
 use Rattle.overlay_rules.proofs.SeatStep.{granted_sends, newly_gated_sends}
+use Rattle.overlay_rules.proofs.Sends.{Each-to_both, Each-to_each}
 use Rattle.ring_laws.proofs.Phases.{Moves, Moves-attempt, IsReadyWith, IsReadyWith-moves, HasLeased, HasLeased-moves}
 
 -- what a phase shows of a message that its node sent
@@ -56,11 +57,10 @@ both : (p : Phase) (xs ys : List Sent) → AllShow p xs → AllShow p ys → All
 both p xs ys h t = record { each = Each-append (λ x. Shows p x.message) xs ys h.each t.each }
 
 to_both_show : (p : Phase) (l r : ℕ) (m : Message) → Shows p m → AllShow p (to_both l r m)
-to_both_show p l r m h = cond_both (l == r) _ _ (AllShow p) (λ _. more p _ _ h (none p)) (λ _. more p _ _ h (more p _ _ h (none p)))
+to_both_show p l r m h = record { each = Each-to_both (λ x. Shows p x.message) l r m (λ y. h) }
 
 to_each_show : (p : Phase) (ys : List ℕ) (m : Message) → Shows p m → AllShow p (to_each ys m)
-to_each_show p [] m h = none p
-to_each_show p (y ∷ ys) m h = more p _ _ h (to_each_show p ys m h)
+to_each_show p ys m h = record { each = Each-to_each (λ x. Shows p x.message) ys m (λ y. h) }
 
 service_shows : (p : Phase) (m : Message) → IsService m → Shows p m
 service_shows p (Release a) h = absurd h

@@ -28,3 +28,6 @@ pub fn ring_law(nodes: &[Id], founder: Id, entries: &Entries)
     ensures closings_are_right { ClosingsAreRight (setting nodes.now founder) entries.now }
     ensures closed_once { ClosedOnce entries.now }
 {}
+
+#[cfg(test)]
+mod tests;
