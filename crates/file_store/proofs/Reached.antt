@@ -1,5 +1,5 @@
 -- Tombs that are buried in order: while there is room each becomes a tombstone, and then only entries do.
-use Rattle.std.proofs.Common.{◌≡◌, ℕ, ◌+◌, ◌<◌, ◌≤◌, Bool, true, false, not, ◌&&◌, ◌||◌, if◌then◌else◌, Option, Some, None, List, [], ◌∷◌, ◌++◌, length, get_or, take, drop, take-append-drop, take_all, length-take-le, zero, suc, subst, ◌-◌, refl, sym, ◌∙◌, ap, arith}
+use Rattle.std.proofs.Common.{◌≡◌, ℕ, ◌+◌, ◌<◌, ◌≤◌, Bool, true, false, not, ◌&&◌, ◌||◌, if◌then◌else◌, Option, Some, None, List, [], ◌∷◌, length, get_or, take, drop, take-append-drop, take_all, length-take-le, zero, suc, subst, ◌-◌, refl, sym, ◌∙◌, ap, arith}
 use Rattle.std.proofs.lemmas.Bool.{lt-ltb, le-ltb}
 use Rattle.std.proofs.lemmas.Bool.Decides.{nat_tests}
 use Rattle.std.proofs.lemmas.List.Folds.{list_any_more, list_any-append}
@@ -11,7 +11,7 @@ use Rattle.file_store.specs.Places.{is_rising}
 use Rattle.file_store.specs.Burial.{is_named, slot_after, Reaches}
 use Rattle.file_store.proofs.Dictionary.{same-eq}
 use Rattle.file_store.proofs.Slots.{by_test}
-use Rattle.file_store.proofs.Burying.{slot-buried, buried-refused, rising-buried, length-buried, length-buried_least, length-buried_old, length-buried_new, length-buried_all, rising-buried_all, buried_all-append, buried_all-turn}
+use Rattle.file_store.proofs.Burying.{slot-buried, buried-refused, length-buried_least, length-buried_old, length-buried_new, length-buried_all, rising-buried_all, buried_all-append, buried_all-turn}
 
 -- the first i tombs have all become tombstones
 pub record Laid (files : List Held) (tombs : List (List ℕ)) (i : ℕ) : Type 0 where

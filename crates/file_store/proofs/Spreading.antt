@@ -1,8 +1,8 @@
 -- What becomes of entries in their order when one comes in, and when one gets another slot.
-use Rattle.std.proofs.Common.{◌≡◌, ◌≢◌, get_or-set_other, get_or-set_same, length-set, ◌<◌, ◌≤◌, ℕ, ◌+◌, ◌*◌, ◌==◌, Bool, true, false, not, ◌&&◌, ◌||◌, nat_lt, List, [], ◌∷◌, ◌++◌, length, get_or, map, zero, suc, refl, sym, subst, inl, inr, ◌∙◌, ap, arith}
+use Rattle.std.proofs.Common.{◌≡◌, ◌≢◌, get_or-set_other, get_or-set_same, length-set, ◌<◌, ◌≤◌, ℕ, ◌+◌, ◌==◌, Bool, true, false, not, ◌&&◌, nat_lt, List, [], ◌∷◌, ◌++◌, length, get_or, zero, suc, refl, sym, subst, inl, inr, ◌∙◌, ap, arith}
 use Rattle.std.proofs.Math.ListN.{set}
-use Rattle.std.specs.List.{insert, list_all}
-use Rattle.std.proofs.lemmas.Bool.Decides.{nat_tests, Decides-eqb}
+use Rattle.std.specs.List.{insert}
+use Rattle.std.proofs.lemmas.Bool.Decides.{nat_tests}
 use Rattle.std.proofs.lemmas.Bool.{cases_lt, lt-ltb, le-ltb}
 use Rattle.std.proofs.lemmas.List.{get_or_default}
 use Rattle.std.proofs.lemmas.List.Edits.{length-insert}

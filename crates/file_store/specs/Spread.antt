@@ -1,5 +1,5 @@
 -- Entries that stay where they came in, and places that give their order.
-use Rattle.std.specs.Prelude.{◌≡◌, ◌<◌, ◌≤◌, ℕ, ◌==◌, Bool, true, not, ◌&&◌, Option, None, List, [], ◌∷◌, length, map, slice_index_or}
+use Rattle.std.specs.Prelude.{◌≡◌, ◌<◌, ◌≤◌, ℕ, ◌==◌, Bool, true, not, ◌&&◌, None, List, [], ◌∷◌, length, map, slice_index_or}
 use Rattle.std.specs.List.{list_all}
 use Rattle.ring_math.specs.declared.file.Held.{Held}
 use Rattle.file_store.specs.Heads.{IsHead}

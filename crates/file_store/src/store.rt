@@ -245,6 +245,7 @@ impl FileStore {
         ensures after { self.new.files ≡ after_bury (bury_of self.old.files file) self.old.files file }
         ensures room { self.old.room ≤ self.new.room }
     {
+        // The row is opened, so that the order of its files is known.
         let _row = &self.row;
         match self.would_bury(&file) {
             Bury::Buried | Bury::Laid => self.set(file, None),

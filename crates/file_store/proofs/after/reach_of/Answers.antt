@@ -1,4 +1,4 @@
-use Rattle.std.proofs.Common.{length, get_or, take, [], ◌||◌, ◌<◌, ◌-◌, ◌+◌, arith, subst, sym, ℕ}
+use Rattle.std.proofs.Common.{length, get_or, take, [], ◌||◌, arith, subst}
 use Rattle.ring_math.specs.Files.{has_entry}
 use Rattle.file_store.specs.Burial.{is_named}
 use Rattle.file_store.proofs.Reached.{Spares, laid-all, reaches-end, spares-none, spares-new, spares-old, not_true, not_false}

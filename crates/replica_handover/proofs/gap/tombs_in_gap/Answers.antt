@@ -1,4 +1,4 @@
-use Rattle.std.proofs.Common.{◌<◌, ◌≤◌, ◌&&◌, length, take, is_none, arith, sym, ◌∙◌, ap}
+use Rattle.std.proofs.Common.{◌<◌, ◌&&◌, length, is_none, arith, sym, ◌∙◌, ap}
 use Rattle.ring_math.specs.Roomy.{Roomy}
 use Rattle.ring_math.specs.declared.file.Held.{Held}
 use Rattle.coverage.specs.GapFiles.{is_in_gap}

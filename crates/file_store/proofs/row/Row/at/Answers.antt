@@ -1,5 +1,4 @@
-use Rattle.std.proofs.Common.{arith, ◌<◌, length}
-use Rattle.file_store.specs.Spread.{spread}
+use Rattle.std.proofs.Common.{arith}
 use Rattle.file_store.proofs.Spreading.{leads-read, entry-read}
 use Rattle.file_store.proofs.row.Row.at.Goals as goal
 

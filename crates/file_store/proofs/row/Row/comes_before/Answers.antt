@@ -1,8 +1,8 @@
-use Rattle.std.proofs.Common.{◌≡◌, ◌<◌, length, get_or, ap, sym, ◌∙◌, arith}
+use Rattle.std.proofs.Common.{◌≡◌, ap, sym, ◌∙◌, arith}
 use Rattle.std.proofs.lemmas.List.{get_or_default}
 use Rattle.ring_math.specs.declared.file.Held.{Held}
 use Rattle.ring_math.specs.Bytewise.{is_before}
-use Rattle.file_store.specs.Spread.{blank, spread, entry_at}
+use Rattle.file_store.specs.Spread.{blank, entry_at}
 use Rattle.file_store.proofs.Spreading.{leads-read, spread-read, head-read, head-decides}
 use Rattle.file_store.proofs.row.Row.comes_before.Goals as goal
 

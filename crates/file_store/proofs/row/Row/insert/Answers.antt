@@ -1,5 +1,4 @@
-use Rattle.std.proofs.Common.{◌≤◌, ◌<◌, length, arith, ◌∙◌, ◌≡◌}
-use Rattle.file_store.specs.Spread.{spread, Kept}
+use Rattle.std.proofs.Common.{arith}
 use Rattle.file_store.proofs.Spreading.{length-spread, kept-insert, spread-new}
 use Rattle.file_store.proofs.row.Row.insert.Goals as goal
 

@@ -1,8 +1,5 @@
-use Rattle.std.proofs.Common.{◌≡◌, ◌<◌, length, get_or, refl, sym, ap, ◌∙◌, arith}
-use Rattle.std.proofs.Math.ListN.{set}
-use Rattle.ring_math.specs.declared.file.Held.{Held}
-use Rattle.file_store.specs.Spread.{blank, spread, Kept}
-use Rattle.file_store.proofs.Spreading.{length-spread, leads-read, kept-set, slot-set}
+use Rattle.std.proofs.Common.{refl, arith}
+use Rattle.file_store.proofs.Spreading.{leads-read, kept-set, slot-set}
 use Rattle.file_store.proofs.row.Row.replace.Goals as goal
 
 pub change_slot-requires : goal.change_slot-requires
