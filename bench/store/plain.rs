@@ -1,5 +1,6 @@
 //! The same work over Rust's `BTreeMap`, for comparison with `store.txt`: puts in random order, gets, and the files of a gap.
 use std::collections::BTreeMap;
+use std::collections::btree_map::Entry;
 use std::time::Instant;
 
 type FileId = [u8; 20];
@@ -61,13 +62,13 @@ fn is_in_gap(r: &Reach, joiner: u128, key: u128) -> bool {
 type Store = BTreeMap<FileId, Option<Vec<u8>>>;
 
 fn put(store: &mut Store, file: FileId, bytes: &[u8]) -> bool {
-    match store.get(&file) {
-        Some(_) => false,
-        None if store.len() < 4096 => {
-            store.insert(file, Some(bytes.to_vec()));
+    let has_room = store.len() < 4096;
+    match store.entry(file) {
+        Entry::Vacant(place) if has_room => {
+            place.insert(Some(bytes.to_vec()));
             true
         }
-        None => false,
+        _ => false,
     }
 }
 

@@ -5,7 +5,7 @@ use Rattle.wire_msg.specs.Words.{Envelope, plain_envelope}
 use Rattle.wire_msg.specs.declared.message.Envelope.{Envelope as CodeEnvelope}
 use Rattle.overlay_rules.specs.declared.entry.Entry.{Entry}
 use Rattle.overlay_rules.specs.Record.{visit, sent_in}
-use Rattle.overlay_rules.proofs.OneMore.{sent_in-more}
+use Rattle.overlay_rules.proofs.Histories.{sent_in-push}
 use Rattle.scenario_reader.specs.declared.node.NodeLine.{NodeLine}
 use Rattle.delivery_report.specs.Deliveries.{entry_lines, lines_after, receivers_of}
 
@@ -31,7 +31,7 @@ take-next xs i x within is = take_more xs i x within ∙ ap (λ y. take i xs ++ 
 
 -- what the first i + 1 entries sent
 pub sent_in-take : (es : List Entry) (i : ℕ) (e : Entry) → i < length es → e ≡ get_or es i e → sent_in (take (i + 1) es) ≡ sent_in (take i es) ++ e.messages
-sent_in-take es i e within is = ap sent_in (take-next es i e within is) ∙ sent_in-more (take i es) e
+sent_in-take es i e within is = ap sent_in (take-next es i e within is) ∙ sent_in-push (take i es) e
 
 -- the lines from entry i on
 pub lines_after-drop : (nodes : List NodeLine) (sent : List Envelope) (es : List Entry) (i : ℕ) (e : Entry) → i < length es → e ≡ get_or es i e →

@@ -8,6 +8,7 @@ use crate::text::Text;
 use ring_math::{Id, OutOfMemory};
 use wire_msg::{Answer, Own, Reply, Why};
 
+/// How a command was closed.
 pub(crate) fn answer(text: &mut Text, names: &Names, answer: &Answer) -> Result<(), OutOfMemory>
     ensures { OnOk result (text.new ≡ text.old ++ answer_text names.now answer.now) }
 {

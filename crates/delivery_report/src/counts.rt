@@ -90,6 +90,7 @@ fn count_deliveries(entries: &[Entry]) -> Result<u64, OutOfMemory>
 {
     let mut count: u64 = 0;
     for entry in entries {
+        // No memory holds notes past the last number, but no type says so.
         let more = deliveries_among(entry.notes.as_slice());
         count = count.checked_add(more).ok_or(OutOfMemory)?;
     }

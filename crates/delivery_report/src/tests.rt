@@ -97,7 +97,7 @@ fn least_run(alloc: Global) -> Result<Record, Fail> {
 fn the_least_run_is_reported(rt: HostRuntime) -> Result<(), Fail> {
     let nodes = nodes(rt.alloc())?;
     let steps = least_run(rt.alloc())?;
-    let text = report_with(rt.alloc(), &nodes[..1], 1, &steps, 1)?;
+    let text = report_with(rt.alloc(), &nodes, 1, &steps, 1)?;
     let expected = b"1 delivered by A hops 0
 delivery 1 of ff000000000000000000000000000000 by A hops 0
 summary entries 2 sent 1 undelivered 0 deliveries 1 skipped 0 ready 1
@@ -249,6 +249,18 @@ delivery 1 of 20000000000000000000000000000000 by B hops 1
 delivery 3 of 0123456789abcdef0123456789abcdef by 0123456789abcdef0123456789abcdef hops 65535
 delivery 2 of 30000000000000000000000000000000 by C_3 hops 0
 summary entries 5 sent 3 undelivered 1 deliveries 4 skipped 7 ready 2
+";
+    assert_eq!(rt; text.as_slice(), expected.as_slice());
+    Ok(())
+}
+
+#[test]
+fn the_summary_has_a_tally(rt: HostRuntime) -> Result<(), Fail> {
+    let answers = answers(rt.alloc())?;
+    let steps = record_of(rt.alloc(), answers)?;
+    let text = summary_with(rt.alloc(), 25, &steps, 3)?;
+    let expected = b"summary entries 21 sent 0 undelivered 0 deliveries 0 skipped 0 ready 3
+tally joined 1 denied 6 stored 1 found 2 missing 1 unanswered 4 other 10
 ";
     assert_eq!(rt; text.as_slice(), expected.as_slice());
     Ok(())

@@ -5,10 +5,9 @@ use Rattle.std.proofs.lemmas.Bool.{ltb-true}
 use Rattle.std.proofs.lemmas.Bool.Decides.{nat_tests}
 use Rattle.std.proofs.lemmas.List.{take_more}
 use Rattle.ring_math.specs.declared.file.Held.{Held}
-use Rattle.ring_math.specs.Files.{Slot, slot_of, with_slot, buried, buried_at, buried_all, has_entry, has_room, is_entry}
+use Rattle.ring_math.specs.Files.{Slot, slot_of, buried, buried_at, buried_all, has_entry, has_room, is_entry}
 use Rattle.file_store.specs.Store.{Store}
 use Rattle.file_store.specs.Places.{is_rising}
-use Rattle.file_store.specs.declared.answer.Bury.{Bury}
 use Rattle.file_store.specs.declared.answer.Bury.TheVariants.{Already, Buried, Laid, Full}
 use Rattle.file_store.specs.Answers.{bury_at, bury_of, can_set}
 use Rattle.ring_math.specs.Bytewise.{same_bytes}

@@ -1,6 +1,6 @@
 -- Lists of files: which files they name, and those that rise name no file twice.
 use Rattle.std.proofs.Common.{◌≡◌, ℕ, ◌+◌, ◌<◌, ◌≤◌, Bool, true, false, ◌&&◌, ◌||◌, List, [], ◌∷◌, length, get_or, take, drop, take-append-drop, take_all, length-drop, ◌-◌, zero, suc, refl, sym, ◌∙◌, ap, arith, add-one}
-use Rattle.std.proofs.lemmas.List.Folds.{list_any-append, list_any_more}
+use Rattle.std.proofs.lemmas.List.Folds.{list_any-append}
 use Rattle.ring_math.specs.Bytewise.{same_bytes, is_before}
 use Rattle.file_store.specs.Burial.{is_named, comes_first, rises}
 use Rattle.file_store.proofs.Dictionary.{before-trans, before-not_same}

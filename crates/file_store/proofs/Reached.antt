@@ -1,5 +1,5 @@
 -- Tombs that are buried in order: while there is room each becomes a tombstone, and then only entries do.
-use Rattle.std.proofs.Common.{◌≡◌, ℕ, ◌+◌, ◌<◌, ◌≤◌, Bool, true, false, not, ◌&&◌, ◌||◌, if◌then◌else◌, Option, Some, None, List, [], ◌∷◌, ◌++◌, length, get_or, take, drop, take-append-drop, take_all, length-take-le, zero, suc, subst, ◌-◌, refl, sym, ◌∙◌, ap, arith}
+use Rattle.std.proofs.Common.{◌≡◌, ℕ, ◌+◌, ◌<◌, ◌≤◌, Bool, true, false, not, ◌&&◌, ◌||◌, if◌then◌else◌, Option, Some, None, List, [], ◌∷◌, length, get_or, take, drop, take-append-drop, take_all, length-take-le, zero, suc, subst, ◌-◌, refl, sym, ◌∙◌, ap, arith}
 use Rattle.std.proofs.lemmas.Bool.{lt-ltb, le-ltb}
 use Rattle.std.proofs.lemmas.Bool.Decides.{nat_tests}
 use Rattle.std.proofs.lemmas.List.Folds.{list_any_more, list_any-append}
@@ -11,7 +11,7 @@ use Rattle.file_store.specs.Places.{is_rising}
 use Rattle.file_store.specs.Burial.{is_named, slot_after, Reaches}
 use Rattle.file_store.proofs.Dictionary.{same-eq}
 use Rattle.file_store.proofs.Slots.{by_test}
-use Rattle.file_store.proofs.Burying.{slot-buried, buried-refused, rising-buried, length-buried, length-buried_least, length-buried_old, length-buried_new, length-buried_all, rising-buried_all, buried_all-append, buried_all-turn}
+use Rattle.file_store.proofs.Burying.{slot-buried, buried-refused, length-buried_least, length-buried_old, length-buried_new, length-buried_all, rising-buried_all, buried_all-append, buried_all-turn}
 
 -- the first i tombs have all become tombstones
 pub record Laid (files : List Held) (tombs : List (List ℕ)) (i : ℕ) : Type 0 where
@@ -58,17 +58,18 @@ slot-full hs [] f full = refl
 slot-full hs (t ∷ ts) f full =
     slot-full (buried hs t) ts f (no_room-later hs t full)
     ∙ by_test (has_entry hs t)
-      (λ e. ap (λ o. tomb_of_entry o (is_named ts f)) (slot-buried hs t f (rw e refl)) ∙ by_test (same_bytes t f)
-        (λ u. rw u (named (is_named ts f) (slot_of hs f) (rw (← same-eq t f u) e)))
-        (λ u. rw u refl))
-      (λ e. ap (λ zs. tomb_of_entry (slot_of zs f) (is_named ts f)) (buried-refused hs t (rw (e, full) refl)) ∙ by_test (same_bytes t f)
-        (λ u. rw u (unnamed (is_named ts f) (slot_of hs f) (rw (← same-eq t f u) e)))
-        (λ u. rw u refl))
+    (λ e. ap (λ o. tomb_of_entry o (is_named ts f)) (slot-buried hs t f (rw e refl)) ∙ by_test (same_bytes t f)
+    (λ u. rw u (named (is_named ts f) (slot_of hs f) (rw (← same-eq t f u) e)))
+    (λ u. rw u refl))
+    (λ e. ap (λ zs. tomb_of_entry (slot_of zs f) (is_named ts f)) (buried-refused hs t (rw (e, full) refl)) ∙ by_test (same_bytes t f)
+    (λ u. rw u (unnamed (is_named ts f) (slot_of hs f) (rw (← same-eq t f u) e)))
+    (λ u. rw u refl))
   where
     named : (a : Bool) (o : Option Slot) → is_entry o ≡ true → tomb_of_entry (Some None) a ≡ tomb_of_entry o true
     named a None e = cc
     named true (Some s) e = refl
     named false (Some s) e = refl
+
     unnamed : (a : Bool) (o : Option Slot) → is_entry o ≡ false → tomb_of_entry o a ≡ tomb_of_entry o true
     unnamed true None e = refl
     unnamed false None e = refl
@@ -86,10 +87,13 @@ reaches-full files tombs i l p full = record { within = l; slots = λ f. slots f
   joined false true (Some s) = refl
   joined false false None = refl
   joined false false (Some s) = refl
+
   whole : buried_all files tombs ≡ buried_all (buried_all files (take i tombs)) (drop i tombs)
   whole = ap (buried_all files) (sym (take-append-drop i tombs)) ∙ buried_all-append files (take i tombs) (drop i tombs)
+
   named : (f : List ℕ) → is_named tombs f ≡ (is_named (take i tombs) f || is_named (drop i tombs) f)
   named f = ap (λ ts. is_named ts f) (sym (take-append-drop i tombs)) ∙ list_any-append (λ g. same_bytes g f) (take i tombs) (drop i tombs)
+
   slots : (f : List ℕ) → slot_of (buried_all files tombs) f ≡ slot_after (slot_of files f) (is_named tombs f) (is_named (take i tombs) f)
   slots f =
       ap (λ hs. slot_of hs f) whole ∙ slot-full (buried_all files (take i tombs)) (drop i tombs) f full ∙ ap (λ o. tomb_of_entry o (is_named (drop i tombs) f)) (p.slots f)
@@ -103,8 +107,10 @@ reaches-end files tombs n e p = record { within = omega arith; slots = λ f. slo
   alone true (Some s) = refl
   alone false None = refl
   alone false (Some s) = refl
+
   all : take n tombs ≡ tombs
   all = take_all n tombs (omega arith)
+
   slots : (f : List ℕ) → slot_of (buried_all files tombs) f ≡ slot_after (slot_of files f) (is_named tombs f) (is_named (take n tombs) f)
   slots f =
       let now : slot_of (buried_all files tombs) f ≡ (if is_named tombs f then Some None else slot_of files f) = rw all at p.slots f in

@@ -1,11 +1,11 @@
 -- Where a file stands, and what a change at that place makes of the list.
-use Rattle.std.proofs.Common.{◌≡◌, IsTrue, ◌||◌, ◌<◌, ◌≤◌, ℕ, ◌+◌, Bool, true, false, not, ◌&&◌, if◌then◌else◌, List, [], ◌∷◌, ◌++◌, length, get_or, drop, take, refl, sym, ◌∙◌, arith, Option, Some, None, ap, suc, zero}
+use Rattle.std.proofs.Common.{◌≡◌, IsTrue, ◌||◌, ◌<◌, ◌≤◌, ℕ, ◌+◌, Bool, true, false, not, ◌&&◌, if◌then◌else◌, List, [], ◌∷◌, length, get_or, refl, sym, ◌∙◌, arith, Option, Some, None, ap, suc, zero}
 use Rattle.std.proofs.Math.ListN.{set}
 use Rattle.std.specs.List.{insert, list_all}
 use Rattle.std.proofs.lemmas.Bool.Decides.{nat_tests}
 use Rattle.ring_math.specs.declared.file.Held.{Held}
 use Rattle.ring_math.specs.Bytewise.{same_bytes, is_before}
-use Rattle.ring_math.specs.Files.{Slot, slot_of, with_slot, has_entry, has_tomb, has_room, is_entry, is_tomb}
+use Rattle.ring_math.specs.Files.{Slot, slot_of, with_slot, has_entry, has_tomb, is_entry, is_tomb}
 use Rattle.file_store.specs.Store.{Store}
 use Rattle.file_store.specs.Spread.{blank}
 use Rattle.file_store.specs.Answers.{can_set}
@@ -211,7 +211,7 @@ file-stands hs f p d at =
 pub placed-set : (hs : List Held) (f : List ℕ) (s : Slot) (p : ℕ) (new : List Held) → StandsAt hs f p → new ≡ set hs p (record (get_or hs p blank) { slot = s }) → Placed hs f s new
 placed-set hs f s p new at n = record {
   same = n ∙ ap (λ g. set hs p (record { file = g; slot = s })) (file-stands hs f p blank at)
-    ∙ ap (λ q. set hs q (record { file = f; slot = s })) at.place ∙ sym (with-set hs f s at.here);
+      ∙ ap (λ q. set hs q (record { file = f; slot = s })) at.place ∙ sym (with-set hs f s at.here);
 }
 
 pub placed-insert : (hs : List Held) (f : List ℕ) (s : Slot) (p : ℕ) (new : List Held) → GoesInAt hs f p → new ≡ insert hs p (record { file = f; slot = s }) → Placed hs f s new

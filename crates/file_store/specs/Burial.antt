@@ -1,5 +1,5 @@
 -- What stands for a file once a list of tombs is buried, told from the list and the entries as they are.
-use Rattle.std.specs.Prelude.{◌≡◌, ◌≤◌, ℕ, Bool, true, false, ◌&&◌, if◌then◌else◌, Option, Some, None, List, [], ◌∷◌, length, take}
+use Rattle.std.specs.Prelude.{◌≡◌, ◌≤◌, ℕ, Bool, true, ◌&&◌, if◌then◌else◌, Option, Some, None, List, [], ◌∷◌, length, take}
 use Rattle.std.specs.List.{list_any}
 use Rattle.ring_math.specs.declared.file.Held.{Held}
 use Rattle.ring_math.specs.Bytewise.{same_bytes, is_before}

@@ -54,7 +54,11 @@ impl<'a> Buried<'a> {
             Some(_) => self.tombs,
             None => &self.tombs[..self.reach],
         };
-        if is_among(tombs, file) { Some(None) } else { slot }
+        if is_among(tombs, file) {
+            Some(None)
+        } else {
+            slot
+        }
     }
 
     /// Whether each file of the manifest will have an entry, and each of the tombs will be a tombstone.

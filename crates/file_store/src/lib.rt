@@ -6,7 +6,6 @@
 mod after;
 mod answer;
 mod order;
-mod place;
 mod row;
 mod store;
 

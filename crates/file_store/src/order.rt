@@ -2,6 +2,7 @@
 
 ghost use Rattle.std.specs.Prelude.{◌≡◌};
 ghost use Rattle.ring_math.specs.Bytewise.{is_before, same_bytes};
+ghost use Rattle.file_store.specs.Heads.{IsHead};
 
 use ring_math::FileId;
 
@@ -31,4 +32,11 @@ pub(crate) fn is_same_text(a: &[u8], b: &[u8]) -> bool
     ensures { result ≡ same_bytes a.now b.now }
 {
     a == b
+}
+
+/// The first two bytes as a number: where these differ between two files, they alone decide which comes first.
+pub(crate) fn head_of(file: &FileId) -> u16
+    ensures { IsHead file.now result }
+{
+    u16::from(file.0[0]) * 256 + u16::from(file.0[1])
 }

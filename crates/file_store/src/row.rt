@@ -1,15 +1,14 @@
 //! Entries in one order, with room that can be taken beforehand.
 //!
-//! An entry stays where it came in, and places of four bytes give the order: so what moves when an entry comes in
-//! between is short. A place keeps the head of its file, so a search seldom looks at the entries themselves.
+//! An entry stays where it came in, and a place of two bytes for each gives the order: so what moves when an entry
+//! comes in between is short. The heads of the files stand apart, so a search seldom looks at the entries themselves.
 
 ghost use Rattle.std.specs.Prelude.{◌≡◌, ◌<◌, ◌≤◌, ◌+◌, ◌++◌, ◌∷◌, [], length, vec_len, vec_capacity, IfOk, OnOk, OnErr, slice_index_or, slice_set};
 ghost use Rattle.std.specs.List.{insert};
 ghost use Rattle.ring_math.specs.Bytewise.{is_before};
 ghost use Rattle.file_store.specs.Spread.{blank};
 
-use crate::order::comes_before;
-use crate::place::{Place, head_of};
+use crate::order::{comes_before, head_of};
 use ring_math::{Bytes, FileId, Held, OutOfMemory};
 use std::alloc::Global;
 use std::marker::Model;
@@ -19,8 +18,10 @@ use std::marker::Model;
 pub(crate) struct Row {
     /// In the order in which they came in.
     entries: Vec<Held>,
-    /// In the order of the row.
-    places: Vec<Place>,
+    /// The first two bytes of the file of each entry.
+    heads: Vec<u16>,
+    /// In the order of the row, where each entry stands among those that came in.
+    places: Vec<u16>,
 }
 
 impl Model for Row {
@@ -30,9 +31,9 @@ impl Model for Row {
 
     ghost Value = { Store };
 
-    ghost view = { λ a. record { files = spread a.entries.items a.places.items; room = min (vec_capacity a.entries) (vec_capacity a.places) } };
+    ghost view = { λ a. record { files = spread a.entries.items a.places.items; room = min (vec_capacity a.entries) (min (vec_capacity a.heads) (vec_capacity a.places)) } };
 
-    ghost invariant = { λ a. Kept a.entries.items a.places.items };
+    ghost invariant = { λ a. Kept a.entries.items a.heads.items a.places.items };
 }
 
 impl Row {
@@ -41,6 +42,7 @@ impl Row {
     {
         Row {
             entries: Vec::new(alloc),
+            heads: Vec::new(alloc),
             places: Vec::new(alloc),
         }
     }
@@ -50,7 +52,7 @@ impl Row {
         ensures limit { length self.now.files ≤ 4096 }
         ensures within { length self.now.files ≤ self.now.room }
     {
-        let _entries = self.entries.len();
+        let (_entries, _heads) = (self.entries.len(), self.heads.len());
         self.places.len()
     }
 
@@ -58,7 +60,7 @@ impl Row {
         requires { place < length self.now.files }
         ensures { result.now ≡ slice_index_or self.now.files place result.now }
     {
-        &self.entries[self.places[place].entry as usize]
+        &self.entries[self.places[place] as usize]
     }
 
     /// Whether the entry's file comes before this one.
@@ -66,12 +68,12 @@ impl Row {
         requires { place < length self.now.files }
         ensures { (d : Held) → result ≡ is_before (slice_index_or self.now.files place d).file file.now }
     {
-        let found = self.places[place];
-        let head = head_of(file);
-        if found.head != head {
-            return found.head < head;
+        let entry = self.places[place] as usize;
+        let (found, sought) = (self.heads[entry], head_of(file));
+        if found != sought {
+            return found < sought;
         }
-        comes_before(&self.entries[found.entry as usize].file, file)
+        comes_before(&self.entries[entry].file, file)
     }
 
     /// Takes room for so many more entries. What stands stays.
@@ -82,6 +84,7 @@ impl Row {
         ensures room { self.old.room ≤ self.new.room }
     {
         self.entries.reserve(count)?;
+        self.heads.reserve(count)?;
         self.places.reserve(count)?;
         Ok(())
     }
@@ -97,7 +100,8 @@ impl Row {
         let entry = self.entries.len() as u16;
         let head = head_of(&held.file);
         add_entry(&mut self.entries, held);
-        add_place(&mut self.places, place, Place { head, entry });
+        add_head(&mut self.heads, head);
+        add_place(&mut self.places, place, entry);
     }
 
     /// What stands for the file at this place is now this.
@@ -106,8 +110,8 @@ impl Row {
         ensures files { self.new.files ≡ slice_set self.old.files place (record (slice_index_or self.old.files place blank) { slot = slot }) }
         ensures room { self.new.room ≡ self.old.room }
     {
-        let entry = self.places[place].entry;
-        change_slot(&mut self.entries, entry as usize, slot);
+        let entry = self.places[place] as usize;
+        change_slot(&mut self.entries, entry, slot);
     }
 
     /// The same entries in memory of their own.
@@ -119,7 +123,13 @@ impl Row {
         for place in 0..self.len() {
             let held = self.at(place);
             let slot = copy_of(alloc, &held.slot)?;
-            copy.insert(place, Held { file: held.file, slot });
+            copy.insert(
+                place,
+                Held {
+                    file: held.file,
+                    slot,
+                },
+            );
         }
         Ok(copy)
     }
@@ -133,7 +143,15 @@ fn add_entry(entries: &mut Vec<Held>, held: Held)
     let _ = entries.push(held);
 }
 
-fn add_place(places: &mut Vec<Place>, at: usize, place: Place)
+fn add_head(heads: &mut Vec<u16>, head: u16)
+    requires { vec_len heads.old < vec_capacity heads.old }
+    ensures items { heads.new.items ≡ heads.old.items ++ head ∷ [] }
+    ensures room { vec_capacity heads.old ≤ vec_capacity heads.new }
+{
+    let _ = heads.push(head);
+}
+
+fn add_place(places: &mut Vec<u16>, at: usize, place: u16)
     requires within { at ≤ vec_len places.old }
     requires room { vec_len places.old < vec_capacity places.old }
     ensures items { places.new.items ≡ insert places.old.items at place }

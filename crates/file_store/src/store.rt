@@ -245,6 +245,7 @@ impl FileStore {
         ensures after { self.new.files ≡ after_bury (bury_of self.old.files file) self.old.files file }
         ensures room { self.old.room ≤ self.new.room }
     {
+        // The row is opened, so that the order of its files is known.
         let _row = &self.row;
         match self.would_bury(&file) {
             Bury::Buried | Bury::Laid => self.set(file, None),
@@ -339,13 +340,17 @@ impl FileStore {
     fn have_entries_with(&self, file: &FileId, files: &[FileId]) -> bool
         ensures { result ≡ list_all (λ f. same_bytes file.now f || has_entry self.now.files f) files.now }
     {
-        files.iter().all(|other| is_same(file, other) || self.slot(other).is_some())
+        files
+            .iter()
+            .all(|other| is_same(file, other) || self.slot(other).is_some())
     }
 
     fn are_gone_with(&self, file: &FileId, files: &[FileId]) -> bool
         ensures { result ≡ list_all (λ f. not (same_bytes file.now f) && has_tomb self.now.files f) files.now }
     {
-        files.iter().all(|other| !is_same(file, other) && self.is_gone(other))
+        files
+            .iter()
+            .all(|other| !is_same(file, other) && self.is_gone(other))
     }
 
     fn have_entries(&self, files: &[FileId]) -> bool

@@ -16,8 +16,23 @@ use Rattle.scenario_reader.specs.Rules.{KeepsRules, AreActions, IsWhat}
 use Rattle.scenario_reader.specs.Tallies.{tallied, tally_of}
 use Rattle.pastry.specs.Solo.{SoloPlay, StandsFor, alone}
 use Rattle.pastry.specs.Schedule.{turn_of, turns_of, setting_of, play_of}
-use Rattle.scenario_reader.specs.Lone.{IsLone, AreLoneActions, IsLoneAction}
+use Rattle.scenario_reader.specs.FirstPath.{IsFirstPath, AreLookupsAndSettles, IsLookupOrSettle}
+use Rattle.scenario_reader.specs.declared.node.NodeLine.{NodeLine}
 use Rattle.pastry.specs.Turns.{IsNext, sent_after}
+
+-- the founder is the one node, and its actions are lookups and settles
+pub record IsLone (s : PlainScenario) : Type 0 where
+  pub node : ids s.nodes ≡ s.founder ∷ []
+  pub actions : AreLookupsAndSettles s.actions
+
+one_node : (nodes : List NodeLine) (founder : ℕ) → length nodes ≡ 1 → Contains (ids nodes) founder → ids nodes ≡ founder ∷ []
+one_node [] founder h (k, lt, e) = absurd (omega arith)
+one_node (x ∷ []) founder h (zero, lt, e) = ap (λ id. id ∷ []) e
+one_node (x ∷ []) founder h (suc k, lt, e) = absurd (omega arith)
+one_node (x ∷ (y ∷ ys)) founder h c = absurd (omega arith)
+
+pub is_lone : (s : PlainScenario) → KeepsRules s → IsFirstPath s → IsLone s
+is_lone s rules path = record { node = one_node s.nodes s.founder path.one_node rules.founder; actions = path.actions }
 
 -- these actions are left, from the play that the founder now stands for
 pub record Acting (s : PlainScenario) (p : SoloPlay) (rest : List Action) : Type 0 where
@@ -30,7 +45,7 @@ pub record Acting (s : PlainScenario) (p : SoloPlay) (rest : List Action) : Type
   pub done : List Action
   pub numbers : (tally_of done).commands ≡ p.sent
   pub rules : AreActions s.nodes s.files (tally_of done) rest
-  pub lone : AreLoneActions rest
+  pub lone : AreLookupsAndSettles rest
 
 -- the setting of a lone founder
 alone_is : (s : PlainScenario) (me : ℕ) → IsLone s → me ≡ s.founder → alone me ≡ setting_of s
@@ -60,9 +75,9 @@ only_node x y xs e c = one x y (subst (λ (ys : List ℕ). Contains ys x) e c) w
 
 -- the first of the actions that are left is the next
 pub acting-next : (s : PlainScenario) (p : SoloPlay) (action : Action) (rest : List Action) → IsLone s → Acting s p (action ∷ rest) →
-    IsLoneAction action.what × IsNext action.what p.me p.sent
+    IsLookupOrSettle action.what × IsNext action.what p.me p.sent
 acting-next s p action rest lone a = (a.lone.0, next action.what a.lone.0 a.rules.0.allowed) where
-  next : (w : What) → IsLoneAction w → IsWhat s.nodes s.files (tally_of a.done) w → IsNext w p.me p.sent
+  next : (w : What) → IsLookupOrSettle w → IsWhat s.nodes s.files (tally_of a.done) w → IsNext w p.me p.sent
   next (what.Command number node command) l w = (w.0 ∙ ap (λ n. n + 1) a.numbers, only_node node s.founder (ids s.nodes) lone.node w.1 ∙ sym a.me)
   next (what.Settle count) l w = tt
   next (what.Deliver message) l w = absurd l
@@ -90,7 +105,7 @@ acting-on s p q action rest a me sent stands = record {
     one_more : tally_of (a.done ++ action ∷ []) ≡ tallied (tally_of a.done) action.what
     one_more = fold-append _ _ a.done (action ∷ [])
 
-    same_copies : (w : What) → IsLoneAction w → (v : Play) → (acted (turn_of w) v).copies ≡ v.copies
+    same_copies : (w : What) → IsLookupOrSettle w → (v : Play) → (acted (turn_of w) v).copies ≡ v.copies
     same_copies (what.Command number node command) l v = refl
     same_copies (what.Settle count) l v = refl
     same_copies (what.Deliver message) l v = absurd l
@@ -98,7 +113,7 @@ acting-on s p q action rest a me sent stands = record {
     same_copies (what.Dup copies) l v = absurd l
     same_copies (what.Noise node bytes) l v = absurd l
 
-    same_skips : (w : What) → IsLoneAction w → (v : Play) → (acted (turn_of w) v).skipped ≡ v.skipped
+    same_skips : (w : What) → IsLookupOrSettle w → (v : Play) → (acted (turn_of w) v).skipped ≡ v.skipped
     same_skips (what.Command number node command) l v = refl
     same_skips (what.Settle count) l v = refl
     same_skips (what.Deliver message) l v = absurd l
@@ -106,7 +121,7 @@ acting-on s p q action rest a me sent stands = record {
     same_skips (what.Dup copies) l v = absurd l
     same_skips (what.Noise node bytes) l v = absurd l
 
-    counted : (w : What) → IsLoneAction w → (tallied (tally_of a.done) w).commands ≡ sent_after w p.sent
+    counted : (w : What) → IsLookupOrSettle w → (tallied (tally_of a.done) w).commands ≡ sent_after w p.sent
     counted (what.Command number node command) l = ap (λ n. n + 1) a.numbers
     counted (what.Settle count) l = a.numbers
     counted (what.Deliver message) l = absurd l

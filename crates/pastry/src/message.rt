@@ -24,7 +24,7 @@ impl fmt::Display for Explained<'_> {
             ),
             LineFault::Count { line, found } => write!(
                 f,
-                "line {line}: {found} words; expected node NAME ID, first NAME, lookup NAME KEY or settle N"
+                "line {line}: the number of words is {found}; expected node NAME ID, first NAME, lookup NAME KEY or settle N"
             ),
             LineFault::Number { line, place } => write!(
                 f,

@@ -8,7 +8,7 @@ ghost use Rattle.delivery_report.specs.Report.{ready_count};
 ghost use Rattle.scenario_reader.specs.Rules.{KeepsRules};
 ghost use Rattle.pastry.specs.Solo.{StandsFor};
 ghost use Rattle.pastry.specs.Schedule.{turn_of, play_of, setting_of};
-ghost use Rattle.scenario_reader.specs.Lone.{IsLone, IsLoneAction};
+ghost use Rattle.scenario_reader.specs.FirstPath.{IsFirstPath, IsLookupOrSettle};
 ghost use Rattle.pastry.specs.Turns.{IsNext, sent_after};
 
 use crate::solo::Solo;
@@ -20,7 +20,7 @@ use wire_msg::Command;
 
 /// Plays one action, a lookup or a settle.
 fn act(solo: &mut Solo, alloc: Global, what: &What) -> Result<(), OutOfMemory>
-    requires lone { IsLoneAction what.now }
+    requires lone { IsLookupOrSettle what.now }
     requires next { IsNext what.now solo.old.me solo.old.sent }
     ensures me { solo.new.me ≡ solo.old.me }
     ensures sent { OnOk result (solo.new.sent ≡ sent_after what.now solo.old.sent) }
@@ -42,7 +42,7 @@ fn act(solo: &mut Solo, alloc: Global, what: &What) -> Result<(), OutOfMemory>
 
 /// Plays a scenario of lookups and settles that its founder plays alone.
 pub fn play_alone(alloc: Global, scenario: &Scenario) -> Result<Record, OutOfMemory>
-    requires { IsLone scenario.now }
+    requires { IsFirstPath scenario.now }
     ensures entries { IfOk result (λ r. r.entries ≡ (play_of scenario.now).world.past) }
     ensures skipped { IfOk result (λ r. r.skipped ≡ (play_of scenario.now).skipped) }
     ensures right { IfOk result (λ r. LookupsAreRight (setting_of scenario.now) r.entries) }

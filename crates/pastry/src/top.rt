@@ -7,7 +7,7 @@ ghost use Rattle.outside.specs.Sink.{BreaksOff};
 ghost use Rattle.outside.specs.Told.{Told};
 ghost use Rattle.scenario_reader.specs.Grammar.{scenario_of};
 ghost use Rattle.scenario_reader.specs.Plain.{PlainScenario};
-ghost use Rattle.scenario_reader.specs.Lone.{IsLone};
+ghost use Rattle.scenario_reader.specs.FirstPath.{IsFirstPath};
 ghost use Rattle.scenario_reader.specs.Tallies.{tally_of};
 ghost use Rattle.scenario_reader.specs.declared.fault.LineFault.{LineFault as Fault};
 ghost use Rattle.pastry.specs.Top.{ArePlay, status_of, IsRefused, IsScenario, IsPlayed, HasPlayed, Appends, IsReadingFault, Prepares, DoneOr};
@@ -32,7 +32,7 @@ const INPUT_LIMIT: usize = 90_010_001;
 /// Reads a scenario from a source.
 fn read_input<S: Source>(alloc: Global, source: &mut S) -> Result<Scenario, TopFault>
     ensures ok { IfOk result (λ s. IsScenario (S.left source.old) (S.left source.new) s) }
-    ensures lone { IfOk result (λ s. IsLone s) }
+    ensures first_path { IfOk result (λ s. IsFirstPath s) }
     ensures kind { IfErr result IsReadingFault }
     ensures refused { (f : Fault) → result ≡ Err (TopFault.Scenario f) → IsRefused (S.left source.old) (S.left source.new) f }
     ensures unread { result ≡ Err TopFault.Read → Rose (S.faults source.old) (S.faults source.new) }
@@ -72,7 +72,7 @@ fn command_count(scenario: &Scenario) -> u64
 
 /// Plays a scenario and writes its report into memory.
 fn prepare(alloc: Global, scenario: &Scenario) -> Result<Prepared, OutOfMemory>
-    requires { IsLone scenario.now }
+    requires { IsFirstPath scenario.now }
     ensures { IfOk result (λ p. Prepares scenario.now p.record p.report) }
 {
     let record = play_alone(alloc, scenario)?;

@@ -1,5 +1,5 @@
 -- The files of the entries that pass a test, one entry more at a time.
-use Rattle.std.proofs.Common.{◌≡◌, ℕ, ◌+◌, ◌<◌, ◌≤◌, Bool, true, false, List, [], ◌∷◌, ◌++◌, length, get_or, take, map, filter, zero, suc, refl, sym, ◌∙◌, ap, arith, append-nil, length-take-le, IsTrue, ◌↔◌}
+use Rattle.std.proofs.Common.{◌≡◌, ℕ, ◌+◌, ◌<◌, ◌≤◌, Bool, true, false, List, [], ◌∷◌, ◌++◌, length, get_or, take, map, filter, refl, sym, ◌∙◌, ap, arith, append-nil, length-take-le, IsTrue, ◌↔◌}
 use Rattle.std.proofs.lemmas.List.{take_more}
 use Rattle.std.specs.Bool.{OnTrue}
 use Rattle.ring_math.specs.Roomy.{Roomy}

@@ -1,5 +1,5 @@
 -- What a joiner takes over: the lists of each side, once they came.
-use Rattle.std.specs.Prelude.{Bool, true, false, ◌&&◌, Option, Some, None, List}
+use Rattle.std.specs.Prelude.{Bool, false, ◌&&◌, Option, Some, None, List}
 use Rattle.ring_math.specs.declared.file.Held.{Held}
 use Rattle.ring_math.specs.Files.{has_lists}
 use Rattle.coverage.specs.GapFiles.{Lists}

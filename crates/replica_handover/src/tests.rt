@@ -52,7 +52,11 @@ fn busy() -> Reach {
 // From 10~ half way to 90~ is 50~, and half way to the joiner 50~ is 30~, which stays with 10~.
 #[test]
 fn the_gap_of_a_joiner_is_handed_over(rt: HostRuntime) -> Result<(), Fail> {
-    let store = store_of(rt.alloc(), &[0x60, 0x50, 0x20, 0x40, 0x30, 0xfa], &[0x48, 0x31, 0x70])?;
+    let store = store_of(
+        rt.alloc(),
+        &[0x60, 0x50, 0x20, 0x40, 0x30, 0xfa],
+        &[0x48, 0x31, 0x70],
+    )?;
     let files = in_gap(rt.alloc(), &store, &busy(), id(0x50))?;
     assert_eq!(rt; files.as_slice(), [file(0x40), file(0x50)].as_slice());
     let tombs = tombs_in_gap(rt.alloc(), &store, &busy(), id(0x50))?;

@@ -4,5 +4,5 @@ mod Pieces
 mod Growth
 mod Outcomes
 mod Limits
-pub mod LoneScenarios
 pub mod Sizes
+mod FirstPath

@@ -1,5 +1,5 @@
 -- How long a scenario can be: 10,000 lines of 9,000 bytes, each with its end.
-use Rattle.std.proofs.Common.{◌≡◌, ◌≤◌, ℕ, suc, ◌+◌, ◌-◌, ◌*◌, Bool, true, false, ◌==◌, if◌then◌else◌, List, [], ◌∷◌, length, Option, Some, None, Ok, refl, arith, nat_lt}
+use Rattle.std.proofs.Common.{Result, Err, ◌≡◌, ◌≤◌, ℕ, suc, ◌+◌, ◌-◌, ◌*◌, Bool, true, false, ◌==◌, if◌then◌else◌, List, [], ◌∷◌, length, Option, Some, None, Ok, refl, arith, nat_lt}
 use Rattle.std.proofs.lemmas.Bool.Decides.{nat_tests}
 use Rattle.std.specs.List.{onto_first}
 use Rattle.scenario_reader.specs.declared.fault.LineFault.{LineFault}
@@ -7,8 +7,34 @@ use Rattle.scenario_reader.specs.Plain.{PlainScenario, Draft, nothing_yet}
 use Rattle.scenario_reader.specs.Words.{words_of}
 use Rattle.scenario_reader.specs.Lines.{lines_of}
 use Rattle.scenario_reader.specs.Checks.{fault_if, too_long, not_text}
-use Rattle.scenario_reader.specs.Grammar.{◌before◌, read_words, read_line, read_from, scenario_of}
-use Rattle.scenario_reader.proofs.LoneScenarios.{GoesOn, goes_on, unless_ok, within_lines}
+use Rattle.scenario_reader.specs.Grammar.{unless, and_then, ◌before◌, read_words, read_line, read_from, scenario_of}
+
+-- ---- what a reading that gave something went through
+
+unless_ok : (f : Option LineFault) (r : Result Draft LineFault) (next : Draft) → unless f r ≡ Ok next → (f ≡ None) × (r ≡ Ok next)
+unless_ok None r next e = (refl, e)
+unless_ok (Some f) r next e = cc
+
+-- the draft that a line gave, and that the lines after it went on with
+record GoesOn (line : Result Draft LineFault) (later : Draft → Result PlainScenario LineFault) (s : PlainScenario) : Type 0 where
+  next : Draft
+  gave : line ≡ Ok next
+  ends : later next ≡ Ok s
+
+goes_on : (line : Result Draft LineFault) (later : Draft → Result PlainScenario LineFault) (s : PlainScenario) →
+    and_then line later ≡ Ok s → GoesOn line later s
+goes_on (Ok next) later s e = record { next = next; gave = refl; ends = e }
+goes_on (Err f) later s e = cc
+
+-- line 10,001 is not read
+within_lines : (n : ℕ) (read : Result PlainScenario LineFault) (f : LineFault) (s : PlainScenario) →
+    (if nat_lt 10000 n then Err f else read) ≡ Ok s → (nat_lt 10000 n ≡ false) × (read ≡ Ok s)
+within_lines n read f s = cases (nat_lt 10000 n) where
+  cases : (b : Bool) → (if b then Err f else read) ≡ Ok s → (b ≡ false) × (read ≡ Ok s)
+  cases true e = cc
+  cases false e = (refl, e)
+
+-- ---- how long it is
 
 -- the bytes of lines, each with its end
 abbrev total : List (List ℕ) → ℕ

@@ -7,6 +7,6 @@ pub mod Words
 pub mod Forms
 pub mod Checks
 pub mod Effects
+pub mod FirstPath
 pub mod Grammar
 pub mod Outcome
-pub mod Lone

@@ -4,6 +4,7 @@ ghost use Rattle.std.specs.Prelude.{◌≡◌, ◌≢◌, ◌⊎◌, ◌+◌, �
 ghost use Rattle.scenario_reader.specs.declared.fault.LineFault.TheVariants as fault;
 ghost use Rattle.scenario_reader.specs.declared.node.NodeLine.{NodeLine as PlainNode};
 ghost use Rattle.scenario_reader.specs.Checks.{form_in, is_text_byte, is_twice, leftmost, settle_passes};
+ghost use Rattle.scenario_reader.specs.FirstPath.{IsFirstPath};
 ghost use Rattle.scenario_reader.specs.Forms.{parts_of};
 ghost use Rattle.scenario_reader.specs.Grammar.{scenario_of, finished, read_line, read_words, read_form, is_comment};
 ghost use Rattle.scenario_reader.specs.Outcome.{Gives};
@@ -40,27 +41,24 @@ pub fn read_scenario(alloc: Global, bytes: &[u8]) -> Result<Scenario, LineFault>
     // The bytes are this scenario.
     ensures read { IfOk result (λ scenario. scenario_of bytes.now ≡ Ok scenario) }
     ensures rules { IfOk result (λ scenario. KeepsRules scenario) }
+    // For now it has one node, and lookups and settles alone.
+    ensures first_path { IfOk result (λ scenario. IsFirstPath scenario) }
     // They are none, and this is their fault.
     ensures refused { IfErr result (λ refusal. (refusal ≡ fault.OutOfMemory) ⊎ (scenario_of bytes.now ≡ Err refusal)) }
 {
     let mut draft = ScenarioBuilder::new(alloc);
+    let mut line = 1;
     let mut rest = bytes;
-    for line in 1..LINES + 1 {
-        if rest.is_empty() {
-            return finished(draft, line);
+    while !rest.is_empty() {
+        if line > LINES {
+            return Err(LineFault::Limit { line, place: 0 });
         }
         let (text, behind) = split_line(rest);
         read_line(&mut draft, alloc, line, text)?;
+        line += 1;
         rest = behind;
     }
-    if rest.is_empty() {
-        finished(draft, LINES + 1)
-    } else {
-        Err(LineFault::Limit {
-            line: LINES + 1,
-            place: 0,
-        })
-    }
+    finished(draft, line)
 }
 
 /// The scenario at the end of the lines, of which the next would be this one.

@@ -1,4 +1,4 @@
-use Rattle.std.proofs.Common.{length, get_or, take, [], ◌||◌, ◌<◌, ◌-◌, ◌+◌, arith, subst, sym, ℕ}
+use Rattle.std.proofs.Common.{length, get_or, take, [], ◌||◌, arith, subst}
 use Rattle.ring_math.specs.Files.{has_entry}
 use Rattle.file_store.specs.Burial.{is_named}
 use Rattle.file_store.proofs.Reached.{Spares, laid-all, reaches-end, spares-none, spares-new, spares-old, not_true, not_false}
@@ -22,8 +22,8 @@ loop-place-preserved c =
     let i = c.loop-place.place in
     let known = has_entry files (get_or tombs i []) || is_named (take i tombs) (get_or tombs i []) in
     elim c.if-is_new.branch [
-    | then-is_new+else-spare-eq0 w ↦
-      rw w.spare-is (spares-new files tombs i c.loop-place.spare (omega arith) c.loop-place.invariant (omega (arith, w.if-spare-eq0.false)) (not_true _ known c.is_new.ensures w.if-is_new.true))
-    | else-is_new w ↦
-      rw w.spare-is (spares-old files tombs i c.loop-place.spare c.entries-spare.ensures.rising (omega arith) c.loop-place.invariant (not_false _ known c.is_new.ensures w.if-is_new.false))
+      | then-is_new+else-spare-eq0 w ↦
+          rw w.spare-is (spares-new files tombs i c.loop-place.spare (omega arith) c.loop-place.invariant (omega (arith, w.if-spare-eq0.false)) (not_true _ known c.is_new.ensures w.if-is_new.true))
+      | else-is_new w ↦
+          rw w.spare-is (spares-old files tombs i c.loop-place.spare c.entries-spare.ensures.rising (omega arith) c.loop-place.invariant (not_false _ known c.is_new.ensures w.if-is_new.false))
     ]

@@ -1,4 +1,3 @@
-use Rattle.scenario_reader.proofs.LoneScenarios.{scenario-lone}
 use Rattle.pastry.proofs.Reading.{read_scenario}
 use Rattle.pastry.proofs.top.read_input.Goals as goal
 
@@ -7,7 +6,3 @@ returns-in-Ok-read_scenario-clause-ok g c =
     read_scenario _ _ c.in-Ok.bytes.items c.in-Ok-read_scenario.scenario
     (record { told = c.in-Ok.ensures.bytes; limit = c.in-Ok.ensures.limit })
     (rw (← c.deref.ensures.value) c.in-Ok-read_scenario.ensures.read)
-
-pub returns-in-Ok-read_scenario-clause-lone : goal.returns-in-Ok-read_scenario-clause-lone
-returns-in-Ok-read_scenario-clause-lone g c =
-    scenario-lone c.deref.result.now c.in-Ok-read_scenario.scenario c.in-Ok-read_scenario.ensures.read c.in-Ok-read_scenario.ensures.rules

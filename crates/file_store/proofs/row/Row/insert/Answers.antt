@@ -1,5 +1,4 @@
-use Rattle.std.proofs.Common.{◌≤◌, ◌<◌, length, arith, ◌∙◌, ◌≡◌}
-use Rattle.file_store.specs.Spread.{spread, Kept}
+use Rattle.std.proofs.Common.{arith}
 use Rattle.file_store.proofs.Spreading.{length-spread, kept-insert, spread-new}
 use Rattle.file_store.proofs.row.Row.insert.Goals as goal
 
@@ -11,10 +10,10 @@ invariant_of-self c =
     let count = c.self.invariant.count in
     let within = rw (← c.self.view_is) at c.requires.within in
     let limit = rw (← c.self.view_is) at c.requires.limit in
-    rw (c.add_entry.ensures.items, c.add_place.ensures.items)
-    (kept-insert entries places c.args.place c.args.held _ c.self.invariant (omega arith) (omega arith) (omega arith) c.head_of-head.ensures)
+    rw (c.add_entry.ensures.items, c.add_head.ensures.items, c.add_place.ensures.items)
+    (kept-insert entries c.self.inside.heads.items places c.args.place c.args.held c.head_of-head.result c.len-entry.result c.self.invariant (omega arith) (omega arith) (omega arith) c.head_of-head.ensures)
 
 pub returns-clause-files : goal.returns-clause-files
 returns-clause-files c =
     rw (c.add_entry.ensures.items, c.add_place.ensures.items, ← c.self.view_is)
-    (spread-new c.self.inside.entries.items c.self.inside.places.items c.args.place c.args.held _ c.self.invariant.leads (omega arith))
+    (spread-new c.self.inside.entries.items c.self.inside.places.items c.args.place c.args.held c.len-entry.result c.self.invariant.leads (omega arith))

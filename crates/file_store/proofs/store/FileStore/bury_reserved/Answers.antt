@@ -1,6 +1,6 @@
-use Rattle.std.proofs.Common.{◌≤◌, take, length, get_or, ◌+◌, arith, ap, sym, ◌∙◌, List}
+use Rattle.std.proofs.Common.{◌≤◌, length, ◌+◌, arith, ap, sym, ◌∙◌, List}
 use Rattle.ring_math.specs.declared.file.Held.{Held}
-use Rattle.ring_math.specs.Files.{buried, buried_all}
+use Rattle.ring_math.specs.Files.{buried}
 use Rattle.file_store.proofs.Burying.{buried_all-turn, length-buried_part, laid-within}
 use Rattle.file_store.proofs.store.FileStore.bury_reserved.Goals as goal
 

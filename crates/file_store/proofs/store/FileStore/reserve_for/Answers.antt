@@ -1,8 +1,7 @@
-use Rattle.std.proofs.Common.{◌≡◌, ◌≤◌, ◌<◌, ◌+◌, min, length, OnOk, OnErr, true, Result, Ok, Err, refl, arith, sym, ◌∙◌}
+use Rattle.std.proofs.Common.{◌≡◌, ◌≤◌, ◌<◌, ◌+◌, min, length, true, refl, arith, sym, ◌∙◌}
 use Rattle.std.proofs.lemmas.Bool.{lt-ltb}
 use Rattle.std.proofs.lemmas.Result.{on_ok_weaker, on_err_weaker}
 use Rattle.ring_math.specs.Files.{has_room}
-use Rattle.file_store.specs.Answers.{lays_any}
 use Rattle.file_store.proofs.Burying.{length-buried_all, length-buried_known, not_all-any}
 use Rattle.file_store.proofs.store.FileStore.reserve_for.Goals as goal
 
