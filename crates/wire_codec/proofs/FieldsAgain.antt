@@ -6,7 +6,8 @@ use Rattle.std.specs.Int.{w8, w16, w32, w64, w128, to_be_bytes}
 use Rattle.wire_codec.specs.Fields.{Field, IsFile, AreFiles, spelled, Fits}
 use Rattle.wire_codec.specs.Sizes.{size_of, size_of_all}
 use Rattle.wire_codec.specs.Layouts.{Form, Layout, end, ◌▸◌, tagged}
-use Rattle.wire_codec.specs.Reading.{field_at, fields_at, Reading}
+use Rattle.wire_codec.specs.Reading.{field_at, Reading}
+use Rattle.wire_codec.proofs.Spans.{fields_at}
 use Rattle.wire_codec.proofs.Sized.{length-ids, length-files, length-spelled}
 use Rattle.wire_codec.proofs.Numbers.{byte_spelled, wide8, wide16, wide32, wide64, wide128}
 use Rattle.wire_codec.proofs.Places.{At, At-then, part_again, number_again, within_again}

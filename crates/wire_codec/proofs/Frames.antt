@@ -17,7 +17,8 @@ use Rattle.wire_codec.specs.Sizes.{size_of_all}
 use Rattle.wire_codec.specs.Layouts.{Form, ◌▸◌, layout}
 use Rattle.wire_codec.specs.Kinds.{number_of, version_of}
 use Rattle.wire_codec.specs.Spelling.{Contents, contents_of, version_number, spelling_of, spelling, Spells}
-use Rattle.wire_codec.specs.Reading.{◌>>=◌, Reading, number_at, fields_at, version_from, kinds, numbered, kind_or, kind_from, header_of, reading}
+use Rattle.wire_codec.specs.Reading.{◌>>=◌, Reading, number_at, version_from, kinds, numbered, kind_or, kind_from, header_of}
+use Rattle.wire_codec.proofs.Spans.{fields_at, reading}
 use Rattle.wire_codec.proofs.Numbers.{wide32}
 use Rattle.wire_codec.proofs.Places.{At, Takes, bind_ok, ok_is, refused_unless, refused_if_not, number_again, number_takes}
 use Rattle.wire_codec.proofs.Sized.{length-fields}

@@ -1,4 +1,3 @@
-pub mod Whole
 pub mod Lists
 pub mod Sized
 pub mod Written
@@ -10,4 +9,7 @@ pub mod FieldsAgain
 pub mod FieldsTaken
 pub mod Messages
 pub mod Frames
+pub mod Spans
+pub mod Shapes
 pub mod Refusals
+pub mod Decoded

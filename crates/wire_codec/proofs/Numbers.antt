@@ -8,7 +8,7 @@ use Rattle.wire_codec.specs.Fields.{AreBytes}
 
 -- ---- 16 bytes are twice 8
 
-halves_spelled : (n high low : ℕ) → n ≡ high * 18446744073709551616 + low → low < 2 ^ 64 → high < 2 ^ 64
+pub halves_spelled : (n high low : ℕ) → n ≡ high * 18446744073709551616 + low → low < 2 ^ 64 → high < 2 ^ 64
     → to_be_bytes w128 n ≡ to_be_bytes w64 high ++ to_be_bytes w64 low
 halves_spelled n high low is low_fits high_fits =
     let b15 : n / 1329227995784915872903807060280344576 % 256 ≡ high / 72057594037927936 % 256 = omega arith in

@@ -43,7 +43,7 @@ is_in_range lowest n highest low high =
     let high_test = le-leb n highest high in
     rw (low_test, high_test) refl
 
-in_range : (lowest n highest : ℕ) → (nat_le lowest n && nat_le n highest) ≡ true → (lowest ≤ n) × (n ≤ highest)
+pub in_range : (lowest n highest : ℕ) → (nat_le lowest n && nat_le n highest) ≡ true → (lowest ≤ n) × (n ≤ highest)
 in_range lowest n highest e =
     let tests = both_true (nat_le lowest n) (nat_le n highest) e in
     (leb-true lowest n tests.0, leb-true n highest tests.1)

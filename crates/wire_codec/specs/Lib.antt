@@ -3,6 +3,6 @@ pub mod Kinds
 pub mod Spelling
 pub mod Layouts
 pub mod Reading
-pub mod Views
 pub mod Sizes
 pub mod Writing
+pub mod Values

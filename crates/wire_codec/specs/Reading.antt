@@ -1,4 +1,4 @@
--- Reading a frame from its front to its end, field by field, with the first refusal that applies.
+-- Reading a frame from its front to its end, field by field, up to the first refusal that applies.
 use Rattle.std.specs.Prelude.{◌≡◌, ℕ, ◌+◌, ◌-◌, ◌*◌, ◌==◌, nat_lt, nat_le, ◌&&◌, Bool, true, false, if◌then◌else◌, List, [], ◌∷◌, length, take, drop, map, slice_index, find, Option, Some, None, Result, Ok, Err}
 use Rattle.std.specs.Simd.{first_chunks}
 use Rattle.std.specs.Int.{Width, w8, w16, w32, w64, w128, byte_len, from_be_bytes}
@@ -11,7 +11,6 @@ use Rattle.wire_codec.specs.declared.kind.Version.TheVariants.{One, Two}
 use Rattle.wire_codec.specs.Fields.{Field}
 use Rattle.wire_codec.specs.Layouts.{Form, Layout, ◌▸◌, end, tagged, layout}
 use Rattle.wire_codec.specs.Kinds.{number_of}
-use Rattle.wire_codec.specs.Spelling.{Contents}
 
 -- what is read, or the first refusal
 abbrev pub Reading : Type 0 → Type 0
@@ -60,17 +59,11 @@ field_at bytes Form.Tombs place = do
   part ← part_at bytes (place + 2) (20 * n)
   Ok (Field.Tombs (first_chunks 20 n part), place + 2 + 20 * n)
 
--- the fields from the place on, and the place behind the last
-abbrev pub fields_at : List ℕ → Layout → ℕ → Reading (List Field × ℕ)
-fields_at bytes end place = Ok ([], place)
-fields_at bytes (form ▸ more) place = do
-  field ← field_at bytes form place
-  others ← fields_at bytes more field.1
-  Ok (field.0 ∷ others.0, others.1)
-fields_at bytes (tagged lowest highest behind) place = do
-  tag ← number_within bytes w8 lowest highest place
-  others ← fields_at bytes (behind tag) (place + 1)
-  Ok (Field.Tag tag ∷ others.0, others.1)
+-- the fields from the place on are to end where the bytes end
+abbrev pub walk : List ℕ → Layout → ℕ → Reading (Unit {0})
+walk bytes end place = if place == length bytes then Ok tt else Err (fault.Range place)
+walk bytes (form ▸ more) place = field_at bytes form place >>= λ field. walk bytes more field.1
+walk bytes (tagged lowest highest behind) place = number_within bytes w8 lowest highest place >>= λ tag. walk bytes (behind tag) (place + 1)
 
 abbrev pub version_from : ℕ → Reading Version
 version_from byte = if byte == 1 then Ok One else (if byte == 2 then Ok Two else Err (fault.Version byte))
@@ -104,26 +97,20 @@ header_of bytes =
       stated ← number_at bytes w32 2
       if stated == length bytes - 6 then Ok k else Err (fault.Length stated (length bytes - 6)))
 
--- the fields of a kind from the place on, and the place behind the last
-abbrev pub contents_at : List ℕ → Kind → ℕ → Reading (Contents × ℕ)
-contents_at bytes k place = do
-  found ← fields_at bytes (layout k) place
-  Ok (record { kind = k; fields = found.0 }, found.1)
-
--- what a frame says: sender, receiver and stamp, and the fields of its kind, with no byte behind them
-abbrev pub reading : List ℕ → Reading Contents
-reading bytes = do
+-- the kind of a frame: behind the header stand sender, receiver and stamp, and the fields of its kind
+abbrev pub framing : List ℕ → Reading Kind
+framing bytes = do
   k ← header_of bytes
-  found ← fields_at bytes (Form.Id ▸ Form.Id ▸ Form.Number ▸ layout k) 6
-  if found.1 == length bytes then Ok (record { kind = k; fields = found.0 }) else Err (fault.Range found.1)
+  ended ← walk bytes (Form.Id ▸ Form.Id ▸ Form.Number ▸ layout k) 6
+  Ok k
 
-abbrev pub refusal_in : Reading Contents → Option FrameFault
-refusal_in (Ok c) = None
+abbrev pub refusal_in : Reading Kind → Option FrameFault
+refusal_in (Ok k) = None
 refusal_in (Err e) = Some e
 
 -- the first refusal that applies, of bytes that are no frame
 abbrev pub refusal : List ℕ → Option FrameFault
-refusal bytes = refusal_in (reading bytes)
+refusal bytes = refusal_in (framing bytes)
 
 -- the fault is the refusal that is due, or memory was refused where none is due
 abbrev pub IsDue : FrameFault → Option FrameFault → Type 0

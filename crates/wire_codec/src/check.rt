@@ -1,33 +1,23 @@
 //! The check of a whole frame, which takes no memory.
 
-ghost use Rattle.std.specs.Prelude.{◌≡◌, IfOk};
-ghost use Rattle.wire_codec.specs.Spelling.{contents_of, Spells};
-ghost use Rattle.wire_codec.specs.Views.{seen};
-ghost use Rattle.wire_codec.specs.Reading.{Reads, reading};
+ghost use Rattle.std.specs.Prelude.{◌≤◌, length, IfOk};
+ghost use Rattle.wire_codec.specs.Reading.{Reads, framing};
 
 use crate::fault::FrameFault;
 use crate::field::{id_at, number_at};
 use crate::header::header;
-use crate::message::message_at;
-use crate::view::EnvelopeView;
+use crate::kind::Kind;
+use crate::walk::walk_message;
 
-/// The envelope that the bytes spell, with its lists still in the bytes, or the first refusal that applies.
-pub(crate) fn check(bytes: &[u8]) -> Result<EnvelopeView<'_>, FrameFault>
-    ensures value { Reads (λ view. contents_of (seen view)) result (reading bytes.now) }
-    ensures spells { IfOk result (λ view. Spells bytes.now (seen view)) }
+/// The kind of the frame, or the first refusal that applies.
+pub(crate) fn check(bytes: &[u8]) -> Result<Kind, FrameFault>
+    ensures value { Reads (λ kind. kind) result (framing bytes.now) }
+    ensures within { IfOk result (λ kind. 6 ≤ length bytes.now) }
 {
     let kind = header(bytes)?;
-    let (sender, place) = id_at(bytes, 6)?;
-    let (receiver, place) = id_at(bytes, place)?;
-    let (stamp, place) = number_at(bytes, place)?;
-    match message_at(bytes, kind, place) {
-        Ok((message, place)) if place == bytes.len() => Ok(EnvelopeView {
-            sender,
-            receiver,
-            stamp,
-            message,
-        }),
-        Ok((_, place)) => Err(FrameFault::Range { place }),
-        Err(fault) => Err(fault),
-    }
+    let (_sender, place) = id_at(bytes, 6)?;
+    let (_receiver, place) = id_at(bytes, place)?;
+    let (_stamp, place) = number_at(bytes, place)?;
+    walk_message(bytes, kind, place)?;
+    Ok(kind)
 }

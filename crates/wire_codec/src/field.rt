@@ -131,6 +131,7 @@ pub(crate) fn copies_at(bytes: &[u8], place: usize) -> Result<(Copies, usize), F
 pub(crate) fn bytes_at(bytes: &[u8], place: usize) -> Result<(&[u8], usize), FrameFault>
     requires { place ≤ length bytes.now }
     ensures value { Reads (λ x. (Field.Bytes x.0.now, x.1)) result (field_at bytes.now Form.Bytes place) }
+    ensures limit { IfOk result (λ x. length x.0.now ≤ 4096) }
     ensures within { IfOk result (λ x. x.1 ≤ length bytes.now) }
 {
     let len = length_within(bytes, 0, place)?;
@@ -141,6 +142,7 @@ pub(crate) fn bytes_at(bytes: &[u8], place: usize) -> Result<(&[u8], usize), Fra
 pub(crate) fn ids_at(bytes: &[u8], place: usize) -> Result<(&[[u8; 16]], usize), FrameFault>
     requires { place ≤ length bytes.now }
     ensures value { Reads (λ x. (Field.Ids (map (from_be_bytes w128) x.0.now), x.1)) result (field_at bytes.now Form.Ids place) }
+    ensures limit { IfOk result (λ x. length x.0.now ≤ 17) }
     ensures within { IfOk result (λ x. x.1 ≤ length bytes.now) }
 {
     let count = usize::from(byte_within(bytes, 0, 17, place)?);
@@ -151,6 +153,7 @@ pub(crate) fn ids_at(bytes: &[u8], place: usize) -> Result<(&[[u8; 16]], usize),
 pub(crate) fn files_at(bytes: &[u8], place: usize) -> Result<(&[[u8; 20]], usize), FrameFault>
     requires { place ≤ length bytes.now }
     ensures value { Reads (λ x. (Field.Files x.0.now, x.1)) result (field_at bytes.now Form.Files place) }
+    ensures limit { IfOk result (λ x. length x.0.now ≤ 4096) }
     ensures within { IfOk result (λ x. x.1 ≤ length bytes.now) }
 {
     let count = length_within(bytes, 0, place)?;
@@ -161,7 +164,7 @@ pub(crate) fn files_at(bytes: &[u8], place: usize) -> Result<(&[[u8; 20]], usize
 pub(crate) fn tombs_at(bytes: &[u8], place: usize) -> Result<(&[[u8; 20]], usize), FrameFault>
     requires { place ≤ length bytes.now }
     ensures value { Reads (λ x. (Field.Tombs x.0.now, x.1)) result (field_at bytes.now Form.Tombs place) }
-    ensures some { IfOk result (λ x. 1 ≤ length x.0.now) }
+    ensures limit { IfOk result (λ x. (1 ≤ length x.0.now) × (length x.0.now ≤ 4096)) }
     ensures within { IfOk result (λ x. x.1 ≤ length bytes.now) }
 {
     let count = length_within(bytes, 1, place)?;

@@ -15,12 +15,12 @@ mod put;
 mod put_message;
 mod size;
 mod tagged;
-mod view;
+mod walk;
 
 pub use decoder::{decode, is_frame};
 pub use encoder::encode;
 pub use fault::FrameFault;
-pub use laws::{bytes_spell_one_envelope, no_spelling_begins_another, spelling_is_read};
+pub use laws::{bytes_spell_one_envelope, no_spelling_begins_another, no_spelling_is_refused};
 
 #[cfg(test)]
 mod tests;

@@ -20,7 +20,11 @@ pub(crate) fn put_tag(out: &mut Vec<u8>, tag: u8) -> Result<(), OutOfMemory>
 pub(crate) fn put_id(out: &mut Vec<u8>, id: Id) -> Result<(), OutOfMemory>
     ensures { OnOk result (Writes out.old.items out.new.items (Field.Id id ∷ [])) }
 {
-    out.extend_from_slice(&id.0.to_be_bytes())?;
+    // By halves, since a number of 64 bits is turned round by one instruction.
+    let high = (id.0 >> 64) as u64;
+    let low = (id.0 % (1 << 64)) as u64;
+    out.extend_from_slice(&high.to_be_bytes())?;
+    out.extend_from_slice(&low.to_be_bytes())?;
     Ok(())
 }
 

@@ -109,8 +109,8 @@ fn files(alloc: Global, n: u16) -> Result<FileIds, Fail> {
 /// As many identifiers as a list takes.
 fn all_ids(alloc: Global) -> Result<Ids, Fail> {
     let mut ids = Ids::with_room(alloc)?;
-    for i in 0..17 {
-        let _has_room = ids.push(Id(i));
+    for i in 0..17u8 {
+        let _has_room = ids.push(Id(u128::from(i)));
     }
     Ok(ids)
 }

@@ -1,13 +1,15 @@
--- The bytes spell one envelope, and what is refused is due and spells none.
-use Rattle.std.proofs.Common.{sym, ◌∙◌}
-use Rattle.wire_codec.specs.Views.{seen}
-use Rattle.wire_codec.proofs.Frames.{one_envelope}
+-- What passes the check is read, unless memory is refused, and what is refused is due and spells nothing.
+use Rattle.std.proofs.Common.{arith}
 use Rattle.wire_codec.proofs.Refusals.{refused_is_due, refused_spells_none}
+use Rattle.wire_codec.proofs.Decoded.{decoded_read, decoded_spelled, decoded_refused}
 use Rattle.wire_codec.proofs.decoder.decode.Goals as goal
 
-pub returns-in_ok-owned_envelope-in-Ok-clause-spelled : goal.returns-in_ok-owned_envelope-in-Ok-clause-spelled
-returns-in_ok-owned_envelope-in-Ok-clause-spelled c =
-    λ e spells. c.in_ok-owned_envelope-in-Ok.ensures ∙ one_envelope c.args.bytes.now (seen c.in-Ok.view) e c.in-Ok.ensures.spells spells
+pub returns-in-Ok : goal.returns-in-Ok
+returns-in-Ok c = record {
+  read = decoded_read c.args.bytes.now c.in-Ok.kind c.envelope_at.result (λ i. omega (arith, c.type_inv.bytes i)) c.in-Ok.ensures.value c.envelope_at.ensures;
+  spelled = decoded_spelled c.args.bytes.now c.in-Ok.kind c.envelope_at.result (λ i. omega (arith, c.type_inv.bytes i)) c.in-Ok.ensures.value c.envelope_at.ensures;
+  refused = decoded_refused c.args.bytes.now c.in-Ok.kind c.envelope_at.result c.in-Ok.ensures.value c.envelope_at.ensures;
+}
 
 pub returns-in-Err-clause-spelled : goal.returns-in-Err-clause-spelled
 returns-in-Err-clause-spelled c = λ e spells. absurd (refused_spells_none c.args.bytes.now c.in-Err.fault e c.in-Err.ensures.value spells)

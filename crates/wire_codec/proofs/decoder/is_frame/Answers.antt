@@ -1,7 +1,12 @@
--- Bytes that are refused spell nothing.
-use Rattle.wire_codec.proofs.Refusals.{refused_spells_none}
+-- What passes the check is a frame, and nothing else is.
+use Rattle.std.proofs.Common.{arith}
+use Rattle.wire_codec.proofs.Decoded.{tested_spelled, tested_refused}
 use Rattle.wire_codec.proofs.decoder.is_frame.Goals as goal
 
-pub returns-in-Err-clause-spelled : goal.returns-in-Err-clause-spelled
-returns-in-Err-clause-spelled c =
-    (λ no. absurd cc, λ found. absurd (refused_spells_none c.args.bytes.now c.in-Err.field-0 found.0 c.in-Err.ensures.value found.1))
+pub returns : goal.returns
+returns c =
+    let is = c.is_ok.ensures.value in
+    record {
+      spelled = rw is (tested_spelled c.args.bytes.now c.check.result (λ i. omega (arith, c.type_inv.bytes i)) c.check.ensures.value);
+      refused = rw is (tested_refused c.args.bytes.now c.check.result c.check.ensures.value);
+    }

@@ -1,0 +1,25 @@
+use Rattle.std.proofs.Common.{◌≡◌, false, take, sym, ◌∙◌, ap, subst, ◌==◌}
+use Rattle.std.proofs.lemmas.Bool.{eqb-true}
+use Rattle.ring_math.specs.Ring.{cw_of}
+use Rattle.ring_math.specs.Sides.{placed}
+use Rattle.leaf_set.specs.Leaves.{Leaves}
+use Rattle.leaf_set.proofs.Learning.{stands-me, stands-held, stands-placed}
+use Rattle.leaf_set.proofs.LeafSet.learn.Goals as goal
+use Rattle.leaf_set.proofs.LeafSet.learn.Goals.{then-eq-via-then-eq, then-eq-via-else-eq+then-has}
+
+pub returns-then-eq-clause-stands : goal.returns-then-eq-clause-stands
+returns-then-eq-clause-stands c = λ known st.
+    elim c.then-eq.branch [
+      | then-eq-via-then-eq w ↦ stands-me c.args.self.now known c.args.id st
+          (eqb-true c.args.id c.self.inside.me (sym c.eq.ensures ∙ w.if-eq.true) ∙ ap (λ (s : Leaves). s.me) c.self.view_is)
+      | then-eq-via-else-eq+then-has w ↦ stands-held c.args.self.now known c.args.id st (sym w.has.ensures ∙ w.if-has.true)
+    ]
+
+pub returns-clause-stands : goal.returns-clause-stands
+returns-clause-stands c = λ known st.
+    stands-placed c.args.self.now _ known c.args.id st
+    (subst (λ (s : Leaves). (c.args.id == s.me) ≡ false) c.self.view_is (sym c.eq.ensures ∙ c.if-eq.false))
+    (sym c.has.ensures ∙ c.if-has.false)
+    (ap (λ (s : Leaves). s.me) c.self.view_is)
+    (subst (λ (s : Leaves). c.place-on_right.new.self ≡ take 8 (placed (λ z. cw_of s.me z) c.args.id s.right)) c.self.view_is c.place-on_right.ensures.placed)
+    (subst (λ (s : Leaves). c.place-on_left.new.self ≡ take 8 (placed (λ z. cw_of z s.me) c.args.id s.left)) c.self.view_is c.place-on_left.ensures.placed)

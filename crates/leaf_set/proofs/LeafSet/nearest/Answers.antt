@@ -1,0 +1,14 @@
+use Rattle.std.proofs.Common.{subst}
+use Rattle.std.specs.List.{Contains}
+use Rattle.leaf_set.specs.Leaves.{Leaves, in_order}
+use Rattle.leaf_set.specs.Nearer.{nearer_of}
+use Rattle.leaf_set.proofs.Found.{Found, found_leaf, found_listed, listed_found}
+use Rattle.leaf_set.proofs.LeafSet.nearest.Goals as goal
+
+pub returns : goal.returns
+returns c =
+    rw c.nearer_of.ensures
+    (found_listed (in_order c.args.self.now) c.args.key _
+    (subst (λ (s : Leaves). Found (Contains (in_order s)) c.args.key (nearer_of c.nearest.result c.nearest-2.result c.args.key)) c.self.view_is
+    (found_leaf c.self.inside.right c.self.inside.left c.args.key c.nearest.result c.nearest-2.result
+    (listed_found _ _ _ c.nearest.ensures) (listed_found _ _ _ c.nearest-2.ensures))))

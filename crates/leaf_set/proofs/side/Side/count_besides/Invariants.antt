@@ -1,0 +1,9 @@
+use Rattle.std.proofs.Common.{◌≡◌, ◌≤◌, length, filter, not, take}
+use Rattle.ring_math.specs.Sides.{is_in}
+use Rattle.leaf_set.proofs.side.Side.count_besides.Given as goal
+
+abbrev pub invariant-loop-id : goal.invariant-loop-id
+invariant-loop-id l = record {
+  value : l.count ≡ length (filter (λ y. not (is_in l.other y)) (take l.id-index l.id-items));
+  limit : l.count ≤ l.id-index;
+}

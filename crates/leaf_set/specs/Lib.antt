@@ -1,0 +1,5 @@
+pub mod Leaves
+pub mod Way
+pub mod Room
+pub mod Range
+pub mod Nearer

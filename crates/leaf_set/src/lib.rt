@@ -1,0 +1,148 @@
+//! The leaf set of a node: of all that it learnt, the eight nearest clockwise and the eight nearest counterclockwise
+//! (Pastry, Rowstron and Druschel 2001).
+#![tactic(auto)]
+
+ghost use Rattle.std.specs.Prelude.{◌≡◌, ◌≤◌, ◌&&◌, ◌||◌, ◌++◌, not, [], ℕ, List, Contains, MatchOption, length, slice_get};
+ghost use Rattle.ring_math.specs.Members.{IsClosest};
+ghost use Rattle.ring_math.specs.Sides.{learn as learn_of};
+ghost use Rattle.leaf_set.specs.Leaves.{StandsFor, Improves, in_order, holds};
+ghost use Rattle.leaf_set.specs.Range.{is_in_range};
+
+mod side;
+
+use ring_math::{Id, Ids};
+use side::{Side, Way, nearer_of};
+use std::marker::Model;
+
+/// Two arrays of eight identifiers by distance, seen from a node that is in neither.
+#[derive(Drop)]
+pub struct LeafSet {
+    me: Id,
+    right: Side,
+    left: Side,
+}
+
+impl Model for LeafSet {
+    ghost use Rattle.leaf_set.specs.Leaves.{Leaves};
+
+    ghost Value = { Leaves };
+
+    ghost view = { λ a. record { me = a.me; right = a.right; left = a.left } };
+}
+
+impl LeafSet {
+    /// The leaf set of a node that knows nobody.
+    pub fn new(me: Id) -> LeafSet
+        ensures me { result.me ≡ me }
+        ensures stands { StandsFor result [] }
+    {
+        LeafSet {
+            me,
+            right: Side::new(),
+            left: Side::new(),
+        }
+    }
+
+    /// The node whose leaf set it is.
+    pub fn me(&self) -> Id
+        ensures { result ≡ self.now.me }
+    {
+        self.me
+    }
+
+    /// The same leaf set.
+    pub fn copy(&self) -> LeafSet
+        ensures { result ≡ self.now }
+    {
+        LeafSet {
+            me: self.me,
+            right: self.right.copy(),
+            left: self.left.copy(),
+        }
+    }
+
+    fn has(&self, id: Id) -> bool
+        ensures { result ≡ holds self.now id }
+    {
+        self.right.has(id) || self.left.has(id)
+    }
+
+    /// Takes an identifier in on each side where it is among the nearest eight. It answers whether the identifier was
+    /// on neither side and now is on one. The node itself is never learnt.
+    pub fn learn(&mut self, id: Id) -> bool
+        ensures me { self.new.me ≡ self.old.me }
+        ensures stands { (known : List ℕ) → StandsFor self.old known → StandsFor self.new (learn_of self.old.me known id) }
+        ensures answer { result ≡ not (holds self.old id) && holds self.new id }
+    {
+        if id == self.me || self.has(id) {
+            return false;
+        }
+        let on_right = self.right.place(self.me, Way::Clockwise, id);
+        let on_left = self.left.place(self.me, Way::Counterclockwise, id);
+        on_right || on_left
+    }
+
+    /// The n-th nearest clockwise of all that was learnt, from 0.
+    pub fn right(&self, n: usize) -> Option<Id>
+        ensures { result ≡ slice_get self.now.right n }
+    {
+        self.right.get(n)
+    }
+
+    /// The n-th nearest counterclockwise of all that was learnt, from 0.
+    pub fn left(&self, n: usize) -> Option<Id>
+        ensures { result ≡ slice_get self.now.left n }
+    {
+        self.left.get(n)
+    }
+
+    /// Whether a side has fewer than eight, or the key is no farther clockwise than the farthest on the right, or no
+    /// farther counterclockwise than the farthest on the left.
+    pub fn in_range(&self, key: Id) -> bool
+        ensures { result ≡ is_in_range self.now key }
+    {
+        self.right.reaches(self.me, Way::Clockwise, key)
+            || self.left.reaches(self.me, Way::Counterclockwise, key)
+    }
+
+    /// The leaf that no leaf is nearer to the key than. None exactly where there is no leaf.
+    pub fn nearest(&self, key: Id) -> Option<Id>
+        ensures { let leaves = in_order self.now in
+            MatchOption result (leaves ≡ []) (λ y. IsClosest (Contains leaves) key y) }
+    {
+        nearer_of(self.right.nearest(key), self.left.nearest(key), key)
+    }
+
+    /// Of the leaves that share at least `least` digits with the key and are nearer to it than `than`, the nearest.
+    /// None exactly where there is none.
+    pub fn best(&self, key: Id, least: u8, than: Id) -> Option<Id>
+        ensures { let better = λ (z : ℕ). Improves (in_order self.now) key least than z in
+            MatchOption result ((z : ℕ) → better z → ⊥) (λ y. IsClosest better key y) }
+    {
+        nearer_of(
+            self.right.best(key, least, than),
+            self.left.best(key, least, than),
+            key,
+        )
+    }
+
+    /// How many different leaves there are.
+    pub fn count(&self) -> usize
+        ensures { result ≡ length (in_order self.now) }
+    {
+        self.right.as_slice().len() + self.left.count_besides(&self.right)
+    }
+
+    /// Appends the leaves in leaf order: the right side, nearest first, then those of the left side, nearest first,
+    /// that were not yet said.
+    pub fn copy_to(&self, out: &mut Ids)
+        requires { length out.old ≤ 1 }
+        ensures { out.new ≡ out.old ++ in_order self.now }
+    {
+        self.right.copy_to(out);
+        self.left.copy_besides(&self.right, out);
+    }
+}
+
+#[cfg(test)]
+mod tests;

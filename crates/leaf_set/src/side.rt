@@ -1,0 +1,229 @@
+//! One side of a leaf set: the nearest eight, going one way round the circle.
+
+ghost use Rattle.std.specs.Prelude.{◌≡◌, ◌<◌, ◌≤◌, ◌-◌, ◌++◌, ◌∷◌, not, filter, [], ℕ, List, length, take, nat_lt, false, slice_get, MatchOption, Contains};
+ghost use Rattle.std.specs.List.{position_or_len};
+ghost use Rattle.ring_math.specs.Members.{IsClosest};
+ghost use Rattle.ring_math.specs.Sides.{placed, is_in};
+ghost use Rattle.leaf_set.specs.Leaves.{Improves, improves as improves_on};
+ghost use Rattle.leaf_set.specs.Nearer.{nearer_of as nearer_in};
+ghost use Rattle.leaf_set.specs.Room.{put_in as put_in_of};
+ghost use Rattle.leaf_set.specs.Way.{far, reaches as reaches_of};
+
+use ring_math::{Id, Ids, cw, nearer, shared};
+use std::marker::Model;
+
+/// How many identifiers a side holds at most.
+pub(crate) const SIZE: usize = 8;
+
+/// Which way round the circle a side goes.
+#[derive(Clone, Copy)]
+pub(crate) enum Way {
+    Clockwise,
+    Counterclockwise,
+}
+
+/// How far it is from `me` to `id`, going that way.
+fn distance(me: Id, way: Way, id: Id) -> u128
+    ensures { result ≡ far me way id }
+{
+    match way {
+        Way::Clockwise => cw(me, id),
+        Way::Counterclockwise => cw(id, me),
+    }
+}
+
+/// Whether an identifier shares at least so many digits with the key and is nearer to it than another.
+fn improves(id: Id, key: Id, least: u8, than: Id) -> bool
+    ensures { result ≡ improves_on key least than id }
+{
+    least <= shared(id, key) && nearer(id, than, key)
+}
+
+/// The nearer to the key of two that may be missing, and of two at one place the first.
+pub(crate) fn nearer_of(first: Option<Id>, second: Option<Id>, key: Id) -> Option<Id>
+    ensures { result ≡ nearer_in first second key }
+{
+    match (first, second) {
+        (Some(x), Some(y)) if !nearer(y, x, key) => first,
+        (Some(_), None) => first,
+        _ => second,
+    }
+}
+
+/// Moves the identifiers from a place on up by one, which drops the last, and fills the place.
+fn put_in(ids: &mut [Id; SIZE], place: usize, id: Id)
+    requires { place < 8 }
+    ensures size { length ids.old ≡ 8 }
+    ensures value { ids.new ≡ put_in_of ids.old place id (7 - place) }
+{
+    ids.copy_within(place..SIZE - 1, place + 1);
+    ids[place] = id;
+}
+
+/// Appends an identifier to a list that has room for it.
+fn append(out: &mut Ids, id: Id)
+    requires { length out.old < 17 }
+    ensures { out.new ≡ out.old ++ id ∷ [] }
+{
+    let _pushed = out.push(id);
+}
+
+/// At most eight identifiers, the nearest first.
+#[derive(Drop)]
+pub(crate) struct Side {
+    ids: [Id; SIZE],
+    len: usize,
+}
+
+impl Model for Side {
+    ghost use Rattle.std.specs.Prelude.{ℕ, List, take, ◌≤◌};
+
+    ghost Value = { List ℕ };
+
+    ghost view = { λ a. take a.len a.ids };
+
+    ghost invariant = { λ a. a.len ≤ 8 };
+}
+
+impl Side {
+    /// No identifier yet.
+    pub(crate) fn new() -> Side
+        ensures { result ≡ [] }
+    {
+        Side {
+            ids: [Id(0); SIZE],
+            len: 0,
+        }
+    }
+
+    pub(crate) fn copy(&self) -> Side
+        ensures { result ≡ self.now }
+    {
+        Side {
+            ids: self.ids,
+            len: self.len,
+        }
+    }
+
+    /// The identifiers, the nearest first.
+    pub(crate) fn as_slice(&self) -> &[Id]
+        ensures value { result.now ≡ self.now }
+        ensures limit { length self.now ≤ 8 }
+    {
+        &self.ids[..self.len]
+    }
+
+    /// The n-th nearest, from 0.
+    pub(crate) fn get(&self, n: usize) -> Option<Id>
+        ensures { result ≡ slice_get self.now n }
+    {
+        self.as_slice().get(n).copied()
+    }
+
+    pub(crate) fn has(&self, id: Id) -> bool
+        ensures { result ≡ is_in self.now id }
+    {
+        self.as_slice().iter().any(|other| *other == id)
+    }
+
+    /// Whether there are fewer than eight, or the key is no farther than the last.
+    pub(crate) fn reaches(&self, me: Id, way: Way, key: Id) -> bool
+        ensures { result ≡ reaches_of me way self.now key }
+    {
+        let ids = self.as_slice();
+        ids.len() < SIZE || distance(me, way, key) <= distance(me, way, ids[SIZE - 1])
+    }
+
+    /// The one nearest to the key.
+    pub(crate) fn nearest(&self, key: Id) -> Option<Id>
+        ensures { MatchOption result (self.now ≡ []) (λ y. IsClosest (Contains self.now) key y) }
+    {
+        let mut best = None;
+        for id in self.as_slice() {
+            best = nearer_of(best, Some(*id), key);
+        }
+        best
+    }
+
+    /// Of those that share at least so many digits with the key and are nearer to it than another, the nearest.
+    pub(crate) fn best(&self, key: Id, least: u8, than: Id) -> Option<Id>
+        ensures { let better = λ (z : ℕ). Improves self.now key least than z in
+            MatchOption result ((z : ℕ) → better z → ⊥) (λ y. IsClosest better key y) }
+    {
+        let mut best = None;
+        for id in self.as_slice() {
+            if improves(*id, key, least, than) {
+                best = nearer_of(best, Some(*id), key);
+            }
+        }
+        best
+    }
+
+    /// Appends the identifiers, the nearest first.
+    pub(crate) fn copy_to(&self, out: &mut Ids)
+        requires { length out.old ≤ 1 }
+        ensures limit { length self.now ≤ 8 }
+        ensures copied { out.new ≡ out.old ++ self.now }
+    {
+        for id in self.as_slice() {
+            append(out, *id);
+        }
+    }
+
+    /// How many of these are not in another side.
+    pub(crate) fn count_besides(&self, other: &Side) -> usize
+        ensures limit { result ≤ 8 }
+        ensures value { result ≡ length (filter (λ y. not (is_in other.now y)) self.now) }
+    {
+        let mut count = 0;
+        for id in self.as_slice() {
+            if !other.has(*id) {
+                count += 1;
+            }
+        }
+        count
+    }
+
+    /// Appends those that are not in another side, the nearest first.
+    pub(crate) fn copy_besides(&self, other: &Side, out: &mut Ids)
+        requires { length out.old ≤ 9 }
+        ensures { out.new ≡ out.old ++ filter (λ y. not (is_in other.now y)) self.now }
+    {
+        for id in self.as_slice() {
+            if !other.has(*id) {
+                append(out, *id);
+            }
+        }
+    }
+
+    /// The place of the first that is farther than this one, or how many there are.
+    fn place_of(&self, me: Id, way: Way, id: Id) -> usize
+        ensures within { result ≤ length self.now }
+        ensures limit { length self.now ≤ 8 }
+        ensures first { result ≡ position_or_len (λ y. nat_lt (far me way id) (far me way y)) self.now }
+    {
+        let from_me = distance(me, way, id);
+        let ids = self.as_slice();
+        for (place, other) in ids.iter().enumerate() {
+            if from_me < distance(me, way, *other) {
+                return place;
+            }
+        }
+        ids.len()
+    }
+
+    /// Puts an identifier in its place, behind those as far as it, where it is among the first eight. It answers
+    /// whether it is.
+    pub(crate) fn place(&mut self, me: Id, way: Way, id: Id) -> bool
+        ensures placed { self.new ≡ take 8 (placed (far me way) id self.old) }
+        ensures answer { is_in self.old id ≡ false → result ≡ is_in self.new id }
+    {
+        let place = self.place_of(me, way, id);
+        if place == SIZE {
+            return false;
+        }
+        put_in(&mut self.ids, place, id);
+        self.len = SIZE.min(self.len + 1);
+        true
+    }
+}
