@@ -1,4 +1,4 @@
-//! The same work over Rust's `BTreeMap`, for comparison with `store.txt`: puts in random order, gets, and the files of a gap.
+//! The same work over Rust's `BTreeMap`, to compare with rattle.txt: puts in random order, gets, and the files of a gap.
 use std::collections::BTreeMap;
 use std::collections::btree_map::Entry;
 use std::time::Instant;

@@ -1,4 +1,4 @@
-//! The codec of frames in plain Rust, and the loops of loops.txt, to compare with: `rustc -C opt-level=3 codec.rs`.
+//! The codec of frames in plain Rust, and the loops of rattle.txt.
 #![allow(dead_code)]
 
 use std::hint::black_box;

@@ -1,4 +1,4 @@
-//! The loops of loops.txt in plain Rust, to compare with: `rustc -C opt-level=3 loops.rs`.
+//! The loops of rattle.txt in plain Rust.
 
 use std::time::Instant;
 
