@@ -1,0 +1,174 @@
+//! The prefix table of a node: of all that it learnt, for each row l and column d the first that shares exactly l
+//! leading digits with the node and has digit d there (Pastry's routing table, Rowstron and Druschel 2001).
+#![tactic(auto)]
+
+ghost use Rattle.std.specs.Prelude.{◌≡◌, ◌≢◌, ◌<◌, ◌+◌, ◌*◌, ℕ, List, [], is_none, MatchOption, IfOk};
+ghost use Rattle.std.specs.Bool.{OnTrue, OnFalse};
+ghost use Rattle.ring_math.specs.Members.{IsClosest};
+ghost use Rattle.ring_math.specs.Ring.{shared_of};
+ghost use Rattle.ring_math.specs.Sides.{learn as learn_of};
+ghost use Rattle.route_table.specs.Best.{nearer_of as nearer_in, better_of as better_in};
+ghost use Rattle.route_table.specs.Entries.{StandsFor, Improves, improves as improves_on, entry_in, is_new, with_entry};
+
+use ring_math::{Id, OutOfMemory, digit, nearer, shared};
+use std::alloc::Global;
+use std::marker::Model;
+
+/// How many entries there are: 32 rows of 16.
+const ENTRIES: usize = 512;
+
+/// 32 rows of 16 entries, each an identifier or empty.
+#[derive(Drop)]
+pub struct RouteTable {
+    me: Id,
+    entries: Vec<Option<Id>>,
+}
+
+impl Model for RouteTable {
+    ghost use Rattle.std.specs.Prelude.{◌≡◌, length};
+    ghost use Rattle.route_table.specs.Entries.{Table};
+
+    ghost Value = { Table };
+
+    ghost view = { λ a. record { me = a.me; entries = a.entries.items } };
+
+    ghost invariant = { λ a. length a.entries.items ≡ 512 };
+}
+
+/// The place of an entry among the rows.
+fn place_of(row: u8, col: u8) -> usize
+    requires row { row < 32 }
+    requires col { col < 16 }
+    ensures value { result ≡ 16 * row + col }
+    ensures within { result < 512 }
+{
+    16 * row as usize + col as usize
+}
+
+/// The row of another identifier: how many leading digits it has in common with the node.
+fn row_of(me: Id, id: Id) -> u8
+    requires { id ≢ me }
+    ensures value { result ≡ shared_of me id }
+    ensures within { result < 32 }
+{
+    let (_me, _id) = (me.0, id.0);
+    shared(me, id)
+}
+
+/// Whether an identifier shares at least so many digits with the key and is nearer to it than another.
+fn improves(id: Id, key: Id, least: u8, than: Id) -> bool
+    ensures { result ≡ improves_on key least than id }
+{
+    least <= shared(id, key) && nearer(id, than, key)
+}
+
+/// This identifier where it is nearer to the key than the best so far, else that.
+fn nearer_of(best: Option<Id>, id: Id, key: Id) -> Option<Id>
+    ensures { result ≡ nearer_in best id key }
+{
+    match best {
+        Some(other) if !nearer(id, other, key) => best,
+        _ => Some(id),
+    }
+}
+
+/// The same with an entry, which counts where it holds an identifier that improves.
+fn better_of(best: Option<Id>, entry: Option<Id>, key: Id, least: u8, than: Id) -> Option<Id>
+    ensures { result ≡ better_in best entry key least than }
+{
+    match entry {
+        Some(id) if improves(id, key, least, than) => nearer_of(best, id, key),
+        _ => best,
+    }
+}
+
+impl RouteTable {
+    /// The table of a node that knows nobody. It takes all the memory that the table ever has.
+    pub fn new(alloc: Global, me: Id) -> Result<RouteTable, OutOfMemory>
+        ensures me { IfOk result (λ table. table.me ≡ me) }
+        ensures stands { IfOk result (λ table. StandsFor table []) }
+    {
+        let entries = vec![in alloc; None; ENTRIES]?;
+        Ok(RouteTable { me, entries })
+    }
+
+    /// The node whose table it is.
+    pub fn me(&self) -> Id
+        ensures { result ≡ self.now.me }
+    {
+        self.me
+    }
+
+    /// The same table in memory of its own.
+    pub fn copy(&self, alloc: Global) -> Result<RouteTable, OutOfMemory>
+        ensures { IfOk result (λ copy. copy ≡ self.now) }
+    {
+        let entries = self.entries.as_slice().to_vec(alloc)?;
+        Ok(RouteTable {
+            me: self.me,
+            entries,
+        })
+    }
+
+    /// The entry of a row and a column. None exactly where nothing that was learnt belongs there.
+    pub fn entry(&self, row: u8, col: u8) -> Option<Id>
+        requires row { row < 32 }
+        requires col { col < 16 }
+        ensures { result ≡ entry_in self.now row col }
+    {
+        self.entries[place_of(row, col)]
+    }
+
+    fn entries(&self) -> &[Option<Id>]
+        ensures { result.now ≡ self.now.entries }
+    {
+        &self.entries
+    }
+
+    /// Fills an entry where it is empty, and answers whether it was.
+    fn fill(&mut self, row: u8, col: u8, id: Id) -> bool
+        requires row { row < 32 }
+        requires col { col < 16 }
+        ensures answer { result ≡ is_none (entry_in self.old row col) }
+        ensures filled { OnTrue result (self.new ≡ with_entry self.old row col id) }
+        ensures same { OnFalse result (self.new ≡ self.old) }
+    {
+        let place = place_of(row, col);
+        if self.entries[place].is_some() {
+            return false;
+        }
+        self.entries[place] = Some(id);
+        true
+    }
+
+    /// Fills the entry to which an identifier belongs, where it is empty, and answers whether it did. The node itself
+    /// is never learnt.
+    pub fn learn(&mut self, id: Id) -> bool
+        ensures me { self.new.me ≡ self.old.me }
+        ensures stands { (known : List ℕ) → StandsFor self.old known → StandsFor self.new (learn_of self.old.me known id) }
+        ensures answer { result ≡ is_new self.old id }
+    {
+        let node = self.me();
+        if id == node {
+            return false;
+        }
+        let row = row_of(node, id);
+        self.fill(row, digit(id, row), id)
+    }
+
+    /// Of the entries that share at least `least` digits with the key and are nearer to it than `than`, the nearest.
+    /// None exactly where there is none.
+    pub fn best(&self, key: Id, least: u8, than: Id) -> Option<Id>
+        ensures { let better = λ (z : ℕ). Improves self.now.entries key least than z in
+            MatchOption result ((z : ℕ) → better z → ⊥) (λ y. IsClosest better key y) }
+    {
+        let mut best = None;
+        for entry in self.entries() {
+            best = better_of(best, *entry, key, least, than);
+        }
+        best
+    }
+}
+
+#[cfg(test)]
+mod tests;
