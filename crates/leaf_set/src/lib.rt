@@ -11,7 +11,8 @@ ghost use Rattle.leaf_set.specs.Range.{is_in_range};
 mod side;
 
 use ring_math::{Id, Ids};
-use side::{Side, Way, nearer_of};
+pub use side::nearer_of;
+use side::{Side, Way};
 use std::marker::Model;
 
 /// Two arrays of eight identifiers by distance, seen from a node that is in neither.

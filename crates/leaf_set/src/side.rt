@@ -40,7 +40,7 @@ fn improves(id: Id, key: Id, least: u8, than: Id) -> bool
 }
 
 /// The nearer to the key of two that may be missing, and of two at one place the first.
-pub(crate) fn nearer_of(first: Option<Id>, second: Option<Id>, key: Id) -> Option<Id>
+pub fn nearer_of(first: Option<Id>, second: Option<Id>, key: Id) -> Option<Id>
     ensures { result ≡ nearer_in first second key }
 {
     match (first, second) {

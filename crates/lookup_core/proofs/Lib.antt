@@ -1,0 +1,3 @@
+pub mod Learning
+pub mod Nearest
+pub mod Hops

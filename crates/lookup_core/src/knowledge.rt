@@ -1,0 +1,104 @@
+//! What a node knows of others: its leaf set and its prefix table.
+
+ghost use Rattle.std.specs.Prelude.{◌≡◌, ℕ, List, [], ◌||◌, IsOk, IfOk};
+ghost use Rattle.ring_math.specs.Sides.{learn as learn_of, learn_all as learn_all_of};
+ghost use Rattle.route_table.specs.Entries.{is_new};
+ghost use Rattle.lookup_core.specs.Kept.{StandsFor, is_taken};
+
+use leaf_set::LeafSet;
+use ring_math::{Id, OutOfMemory};
+use route_table::RouteTable;
+use std::alloc::Global;
+use std::marker::Model;
+
+/// The leaf set and the prefix table of a node. It never learns the node itself.
+#[derive(Drop)]
+pub struct Knowledge {
+    leafs: LeafSet,
+    table: RouteTable,
+}
+
+impl Model for Knowledge {
+    ghost use Rattle.lookup_core.specs.Kept.{Kept};
+
+    ghost Value = { Kept };
+
+    ghost view = { λ a. record { leafs = a.leafs; table = a.table } };
+}
+
+impl Knowledge {
+    /// The knowledge of a node that knows nobody. It takes all the memory that it ever has.
+    pub fn new(alloc: Global, me: Id) -> Result<Knowledge, OutOfMemory>
+        ensures me { IfOk result (λ knowledge. knowledge.leafs.me ≡ me) }
+        ensures stands { IfOk result (λ knowledge. StandsFor knowledge []) }
+    {
+        let table = RouteTable::new(alloc, me)?;
+        Ok(Knowledge {
+            leafs: LeafSet::new(me),
+            table,
+        })
+    }
+
+    /// The same knowledge in memory of its own.
+    pub fn copy(&self, alloc: Global) -> Result<Knowledge, OutOfMemory>
+        ensures { IfOk result (λ copy. copy ≡ self.now) }
+    {
+        let table = self.table.copy(alloc)?;
+        Ok(Knowledge {
+            leafs: self.leafs.copy(),
+            table,
+        })
+    }
+
+    /// The node whose knowledge it is.
+    pub fn me(&self) -> Id
+        ensures { result ≡ self.now.leafs.me }
+    {
+        self.leafs.me()
+    }
+
+    /// The leaf set.
+    pub fn leafs(&self) -> &LeafSet
+        ensures { result.now ≡ self.now.leafs }
+    {
+        &self.leafs
+    }
+
+    /// The prefix table.
+    pub fn table(&self) -> &RouteTable
+        ensures { result.now ≡ self.now.table }
+    {
+        &self.table
+    }
+
+    /// Learns an identifier, and answers whether a side or the table changed.
+    fn take_in(&mut self, id: Id) -> bool
+        ensures me { self.new.leafs.me ≡ self.old.leafs.me }
+        ensures stands { (known : List ℕ) → StandsFor self.old known → StandsFor self.new (learn_of self.old.leafs.me known id) }
+        ensures answer { result ≡ (is_taken self.old.leafs self.new.leafs id || is_new self.old.table id) }
+    {
+        let on_side = self.leafs.learn(id);
+        let in_table = self.table.learn(id);
+        on_side || in_table
+    }
+
+    /// Learns an identifier, and answers whether a side or the table changed. It always answers Ok, and takes no memory.
+    pub fn learn(&mut self, _alloc: Global, id: Id) -> Result<bool, OutOfMemory>
+        ensures ok { IsOk result }
+        ensures me { self.new.leafs.me ≡ self.old.leafs.me }
+        ensures stands { (known : List ℕ) → StandsFor self.old known → StandsFor self.new (learn_of self.old.leafs.me known id) }
+        ensures answer { IfOk result (λ changed. changed ≡ (is_taken self.old.leafs self.new.leafs id || is_new self.old.table id)) }
+    {
+        Ok(self.take_in(id))
+    }
+
+    /// Learns these in order. It takes no memory.
+    pub fn learn_all(&mut self, ids: &[Id])
+        ensures me { self.new.leafs.me ≡ self.old.leafs.me }
+        ensures stands { (known : List ℕ) → StandsFor self.old known → StandsFor self.new (learn_all_of self.old.leafs.me known ids.now) }
+    {
+        for id in ids {
+            let _changed = self.take_in(*id);
+        }
+    }
+}

@@ -1,0 +1,11 @@
+//! What a node knows of others, and where it sends what is for a key.
+#![tactic(auto)]
+
+mod hop;
+mod knowledge;
+
+pub use hop::next_hop;
+pub use knowledge::Knowledge;
+
+#[cfg(test)]
+mod tests;
