@@ -1,5 +1,5 @@
 -- What decode answers of bytes that passed the check, and what the check says of the grammar.
-use Rattle.std.proofs.Common.{◌≡◌, ◌≢◌, ℕ, List, ◌↔◌, Bool, true, false, IsTrue, Option, None, Result, Ok, Err, refl, sym, ap, ◌∙◌}
+use Rattle.std.proofs.Common.{◌≡◌, ℕ, List, ◌↔◌, IsTrue, Option, None, Result, Ok, Err, refl, ap}
 use Rattle.std.specs.Prelude.{IfOk, MatchResult, is_ok}
 use Rattle.wire_msg.specs.declared.message.Envelope.{Envelope as CodeEnvelope}
 use Rattle.wire_msg.specs.Words.{Envelope, plain_envelope}
@@ -8,10 +8,10 @@ use Rattle.wire_codec.specs.declared.fault.FrameFault.TheVariants as fault
 use Rattle.wire_codec.specs.declared.kind.Kind.{Kind}
 use Rattle.wire_codec.specs.Fields.{AreBytes}
 use Rattle.wire_codec.specs.Spelling.{Spells, contents_of}
-use Rattle.wire_codec.specs.Reading.{Reading, Reads, framing, refusal_in, refusal, IsDue}
+use Rattle.wire_codec.specs.Reading.{Reads, framing, refusal_in, refusal, IsDue}
 use Rattle.wire_codec.specs.Values.{Gives, envelope_at}
 use Rattle.wire_codec.proofs.Frames.{one_envelope}
-use Rattle.wire_codec.proofs.Refusals.{passed_spells, given_spells, given_or_memory, refused_spells_none, never_refused}
+use Rattle.wire_codec.proofs.Refusals.{passed_spells, given_spells, given_or_memory, refused_spells_none}
 
 abbrev IsGiven : List ℕ → Kind → Result CodeEnvelope FrameFault → Type 0
 IsGiven bytes k r = Gives (λ e. contents_of (plain_envelope e)) r (envelope_at bytes k)

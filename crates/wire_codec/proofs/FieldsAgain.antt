@@ -1,18 +1,17 @@
 -- Fields that stand in the bytes are read again.
-use Rattle.std.proofs.Common.{◌≡◌, ℕ, ◌+◌, ◌*◌, ◌<◌, ◌≤◌, ◌^◌, List, [], ◌∷◌, ◌++◌, length, map, Option, Some, None, Ok, Err, refl, sym, ap, subst, ◌∙◌, append_assoc, arith}
-use Rattle.std.specs.Prelude.{MatchOption}
+use Rattle.std.proofs.Common.{◌≡◌, ℕ, ◌+◌, ◌*◌, ◌<◌, ◌^◌, List, [], ◌∷◌, ◌++◌, length, Option, Some, None, Ok, refl, sym, ap, subst, append_assoc, arith}
 use Rattle.std.specs.List.{flat_map, AllByRecursion}
 use Rattle.std.specs.Int.{w8, w16, w32, w64, w128, to_be_bytes}
-use Rattle.wire_codec.specs.Fields.{Field, IsFile, AreFiles, spelled, Fits}
+use Rattle.wire_codec.specs.Fields.{Field, spelled, Fits}
 use Rattle.wire_codec.specs.Sizes.{size_of, size_of_all}
 use Rattle.wire_codec.specs.Layouts.{Form, Layout, end, ◌▸◌, tagged}
-use Rattle.wire_codec.specs.Reading.{field_at, Reading}
+use Rattle.wire_codec.specs.Reading.{field_at}
 use Rattle.wire_codec.proofs.Spans.{fields_at}
 use Rattle.wire_codec.proofs.Sized.{length-ids, length-files, length-spelled}
 use Rattle.wire_codec.proofs.Numbers.{byte_spelled, wide8, wide16, wide32, wide64, wide128}
 use Rattle.wire_codec.proofs.Places.{At, At-then, part_again, number_again, within_again}
 use Rattle.wire_codec.proofs.Chunks.{ids_again, files_again}
-use Rattle.wire_codec.proofs.Matching.{form_of, IsTagWithin, tag_in, Matches}
+use Rattle.wire_codec.proofs.Matching.{form_of, Matches}
 
 -- ---- one field
 

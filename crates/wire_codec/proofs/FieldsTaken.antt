@@ -1,13 +1,13 @@
 -- Fields that were read stand in the bytes, and fit.
-use Rattle.std.proofs.Common.{◌≡◌, ℕ, ◌+◌, ◌*◌, ◌<◌, ◌≤◌, ◌^◌, cond, List, [], ◌∷◌, ◌++◌, length, take, drop, map, Ok, refl, sym, ap, subst, ◌∙◌, arith}
+use Rattle.std.proofs.Common.{◌≡◌, ℕ, ◌+◌, ◌*◌, ◌≤◌, ◌^◌, List, [], ◌∷◌, ◌++◌, length, Ok, refl, sym, subst, arith}
 use Rattle.std.specs.List.{flat_map, AllByRecursion}
 use Rattle.std.specs.Simd.{first_chunks}
-use Rattle.std.specs.Int.{Width, w8, w16, w32, w64, w128, byte_len, from_be_bytes, to_be_bytes}
-use Rattle.wire_codec.specs.Fields.{Field, AreBytes, IsFile, spelled, Fits}
+use Rattle.std.specs.Int.{w8, w16, w32, w64, w128, to_be_bytes}
+use Rattle.wire_codec.specs.Fields.{Field, AreBytes, spelled, Fits}
 use Rattle.wire_codec.specs.Layouts.{Form, Layout, end, ◌▸◌, tagged}
 use Rattle.wire_codec.specs.Reading.{◌>>=◌, Reading, part_at, number_at, number_within, field_at}
 use Rattle.wire_codec.proofs.Spans.{fields_at}
-use Rattle.wire_codec.proofs.Numbers.{IsWide, byte_spelled, wide8, wide16, wide32, wide64, wide128}
+use Rattle.wire_codec.proofs.Numbers.{byte_spelled, wide8, wide16, wide32, wide64, wide128}
 use Rattle.wire_codec.proofs.Places.{Takes, Takes-then, IsPart, bind_ok, ok_is, part_takes, number_takes, within_takes}
 use Rattle.wire_codec.proofs.Chunks.{ids_of, ids_taken, files_taken}
 

@@ -1,5 +1,5 @@
 -- A whole frame, both ways: what spells an envelope is read as it, and what is read as an envelope spells it.
-use Rattle.std.proofs.Common.{◌≡◌, ℕ, ◌+◌, ◌-◌, ◌*◌, ◌<◌, ◌≤◌, ◌^◌, Bool, true, false, IsTrue, cond, eqb, ltb, List, [], ◌∷◌, ◌++◌, length, get_or, take, drop, Option, Some, None, Ok, Err, refl, sym, ap, subst, ◌∙◌, append_assoc, arith, eq-eqb}
+use Rattle.std.proofs.Common.{◌≡◌, ℕ, ◌+◌, ◌-◌, ◌<◌, ◌≤◌, ◌^◌, Bool, true, false, cond, eqb, ltb, List, [], ◌∷◌, ◌++◌, length, get_or, take, drop, Option, Some, None, Ok, Err, refl, sym, ap, subst, ◌∙◌, arith, eq-eqb}
 use Rattle.std.specs.Prelude.{find}
 use Rattle.std.specs.List.{flat_map, AllByRecursion}
 use Rattle.std.specs.Int.{w32, from_be_bytes, to_be_bytes}
@@ -20,11 +20,10 @@ use Rattle.wire_codec.specs.Spelling.{Contents, contents_of, version_number, spe
 use Rattle.wire_codec.specs.Reading.{◌>>=◌, Reading, number_at, version_from, kinds, numbered, kind_or, kind_from, header_of}
 use Rattle.wire_codec.proofs.Spans.{fields_at, reading}
 use Rattle.wire_codec.proofs.Numbers.{wide32}
-use Rattle.wire_codec.proofs.Places.{At, Takes, bind_ok, ok_is, refused_unless, refused_if_not, number_again, number_takes}
+use Rattle.wire_codec.proofs.Places.{At, bind_ok, ok_is, refused_if_not, number_again, number_takes}
 use Rattle.wire_codec.proofs.Sized.{length-fields}
-use Rattle.wire_codec.proofs.Matching.{Matches}
 use Rattle.wire_codec.proofs.FieldsAgain.{fields_again}
-use Rattle.wire_codec.proofs.FieldsTaken.{AreRead, fields_taken}
+use Rattle.wire_codec.proofs.FieldsTaken.{fields_taken}
 use Rattle.wire_codec.proofs.Messages.{message_matches, size_small, contents_tell}
 
 abbrev done : {A : Type 0} → A → Reading A

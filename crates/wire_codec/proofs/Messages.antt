@@ -1,5 +1,5 @@
 -- The fields of each message match the layout of its kind, are few, and with the kind give the message back.
-use Rattle.std.proofs.Common.{◌≡◌, ℕ, ◌+◌, ◌*◌, ◌≤◌, Bool, cond, eqb, List, [], ◌∷◌, length, get_or, drop, refl, sym, ap, ◌∙◌, arith, lit≤}
+use Rattle.std.proofs.Common.{◌≡◌, ℕ, ◌*◌, ◌≤◌, cond, eqb, List, [], ◌∷◌, length, get_or, drop, refl, sym, ap, ◌∙◌, arith, lit≤}
 use Rattle.std.specs.List.{AllByRecursion}
 use Rattle.wire_msg.specs.declared.reply.Reply.{Reply}
 use Rattle.wire_msg.specs.declared.reply.Reply.TheVariants as reply

@@ -1,13 +1,11 @@
 -- Reading refuses bytes for what they are, and never for want of memory.
-use Rattle.std.proofs.Common.{◌≡◌, ℕ, ◌+◌, ◌-◌, ◌*◌, Bool, true, false, cond, eqb, ltb, List, ◌∷◌, length, take, drop, get_or, Option, Some, None, Result, Ok, Err, refl, ap, sym, subst, ◌∙◌, ◌≢◌}
+use Rattle.std.proofs.Common.{◌≡◌, ℕ, ◌+◌, ◌-◌, ◌*◌, Bool, true, false, cond, eqb, ltb, List, ◌∷◌, length, take, drop, get_or, Option, Some, None, Ok, Err, refl, ap, sym, subst, ◌∙◌, ◌≢◌}
 use Rattle.std.specs.Prelude.{nat_le, ◌&&◌}
-use Rattle.std.specs.Simd.{first_chunks}
 use Rattle.std.specs.Int.{Width, w8, w16, w32, w64, w128, byte_len, from_be_bytes}
 use Rattle.wire_msg.specs.Words.{Envelope}
 use Rattle.wire_codec.specs.declared.fault.FrameFault.{FrameFault}
 use Rattle.wire_codec.specs.declared.fault.FrameFault.TheVariants as fault
 use Rattle.wire_codec.specs.declared.kind.Kind.{Kind}
-use Rattle.wire_codec.specs.declared.kind.Version.{Version}
 use Rattle.wire_codec.specs.declared.kind.Version.TheVariants.{One, Two}
 use Rattle.wire_codec.specs.Fields.{Field, AreBytes}
 use Rattle.wire_codec.specs.Kinds.{kind_of}

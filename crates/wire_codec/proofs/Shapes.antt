@@ -1,8 +1,8 @@
 -- What was read of a layout has its shape, and so is what some message says.
-use Rattle.std.proofs.Common.{◌≡◌, ℕ, zero, suc, ◌+◌, ◌*◌, ◌<◌, ◌≤◌, Bool, true, false, cond, eqb, ltb, List, [], ◌∷◌, length, take, drop, Ok, Err, refl, sym, ap, ◌∙◌, subst, arith}
+use Rattle.std.proofs.Common.{◌≡◌, ℕ, zero, suc, ◌+◌, ◌*◌, ◌≤◌, Bool, true, false, cond, eqb, ltb, List, [], ◌∷◌, length, take, drop, Ok, Err, refl, sym, ap, ◌∙◌, arith}
 use Rattle.std.specs.Prelude.{nat_le, ◌&&◌}
 use Rattle.std.specs.Simd.{first_chunks}
-use Rattle.std.specs.Int.{Width, w8, w16, w32, w64, w128, from_be_bytes}
+use Rattle.std.specs.Int.{Width, w8, w16, w32, w64, w128}
 use Rattle.std.proofs.lemmas.Bool.{lt-ltb, le-ltb}
 use Rattle.wire_msg.specs.declared.reply.Reply.{Reply}
 use Rattle.wire_msg.specs.declared.reply.Reply.TheVariants as reply
@@ -17,7 +17,7 @@ use Rattle.wire_codec.specs.declared.kind.Version.TheVariants.{One, Two}
 use Rattle.wire_codec.specs.Fields.{Field}
 use Rattle.wire_codec.specs.Layouts.{Form, Layout, end, ◌▸◌, tagged, layout}
 use Rattle.wire_codec.specs.Layouts as layouts
-use Rattle.wire_codec.specs.Kinds.{kind_of, fields_of, fields_of_why, fields_of_reply, fields_of_tombs, tag_of_reply, version_of_reply, version_of_tombs}
+use Rattle.wire_codec.specs.Kinds.{kind_of, fields_of, fields_of_why, fields_of_reply, tag_of_reply, version_of_reply}
 use Rattle.wire_codec.specs.Spelling.{Contents, contents_of}
 use Rattle.wire_codec.specs.Reading.{◌>>=◌, Reading, part_at, number_at, number_within, field_at, header_of}
 use Rattle.wire_codec.proofs.Spans.{fields_at, reading, whole_layout, says}

@@ -1,5 +1,5 @@
 -- The spelling of fields that fit has the size of the fields.
-use Rattle.std.proofs.Common.{◌≡◌, ℕ, ◌+◌, ◌*◌, List, [], ◌∷◌, ◌++◌, length, refl, arith, length-append}
+use Rattle.std.proofs.Common.{◌≡◌, ℕ, ◌*◌, List, [], ◌∷◌, length, refl, arith, length-append}
 use Rattle.std.specs.List.{flat_map, AllByRecursion}
 use Rattle.std.specs.Int.{w16, w128, to_be_bytes}
 use Rattle.wire_codec.specs.Fields.{Field, IsFile, spelled, Fits}

@@ -8,8 +8,7 @@ use Rattle.wire_codec.specs.Fields.{Field}
 use Rattle.wire_codec.specs.Layouts.{Form, Layout, end, ◌▸◌, tagged, layout}
 use Rattle.wire_codec.specs.Spelling.{Contents}
 use Rattle.wire_codec.specs.Reading.{◌>>=◌, Reading, number_within, field_at, walk, header_of, framing}
-use Rattle.wire_codec.specs.Values.{values_at, contents_at, envelope_at}
-use Rattle.wire_codec.proofs.Places.{bind_ok, ok_is, refused_if_not}
+use Rattle.wire_codec.specs.Values.{values_at}
 
 -- the fields from the place on, and the place behind the last
 abbrev pub fields_at : List ℕ → Layout → ℕ → Reading (List Field × ℕ)

@@ -1,5 +1,5 @@
 -- Reading a frame from its front to its end, field by field, up to the first refusal that applies.
-use Rattle.std.specs.Prelude.{◌≡◌, ℕ, ◌+◌, ◌-◌, ◌*◌, ◌==◌, nat_lt, nat_le, ◌&&◌, Bool, true, false, if◌then◌else◌, List, [], ◌∷◌, length, take, drop, map, slice_index, find, Option, Some, None, Result, Ok, Err}
+use Rattle.std.specs.Prelude.{◌≡◌, ℕ, ◌+◌, ◌-◌, ◌*◌, ◌==◌, nat_lt, nat_le, ◌&&◌, if◌then◌else◌, List, [], ◌∷◌, length, take, drop, map, slice_index, find, Option, Some, None, Result, Ok, Err}
 use Rattle.std.specs.Simd.{first_chunks}
 use Rattle.std.specs.Int.{Width, w8, w16, w32, w64, w128, byte_len, from_be_bytes}
 use Rattle.wire_codec.specs.declared.fault.FrameFault.{FrameFault}
@@ -87,7 +87,8 @@ kind_or e (Some k) = Ok k
 abbrev pub kind_from : Version → ℕ → Reading Kind
 kind_from v byte = kind_or (fault.Kind byte) (numbered v byte)
 
--- the kind of the frame, if its length is the stated one
+-- The kind of a frame, or the refusal of its header: fewer than 6 bytes, no version, no kind of the version, or another
+-- length than the stated one.
 abbrev pub header_of : List ℕ → Reading Kind
 header_of bytes =
     if nat_lt (length bytes) 6 then Err (fault.Short 6)

@@ -1,5 +1,5 @@
 -- What the fields of a frame are read as.
-use Rattle.std.specs.Prelude.{◌≡◌, ◌≢◌, ℕ, ◌+◌, ◌==◌, if◌then◌else◌, List, [], ◌∷◌, length, Result, Ok, Err}
+use Rattle.std.specs.Prelude.{◌≡◌, ◌≢◌, ℕ, ◌+◌, List, [], ◌∷◌, Result, Ok, Err}
 use Rattle.std.specs.Int.{w8}
 use Rattle.wire_codec.specs.declared.fault.FrameFault.{FrameFault}
 use Rattle.wire_codec.specs.declared.fault.FrameFault.TheVariants as fault
@@ -7,7 +7,7 @@ use Rattle.wire_codec.specs.declared.kind.Kind.{Kind}
 use Rattle.wire_codec.specs.Fields.{Field}
 use Rattle.wire_codec.specs.Layouts.{Form, Layout, ◌▸◌, end, tagged, layout}
 use Rattle.wire_codec.specs.Spelling.{Contents}
-use Rattle.wire_codec.specs.Reading.{◌>>=◌, Reading, number_within, field_at, header_of}
+use Rattle.wire_codec.specs.Reading.{◌>>=◌, Reading, number_within, field_at}
 
 -- the fields from the place on
 abbrev pub values_at : List ℕ → Layout → ℕ → Reading (List Field)

@@ -7,7 +7,7 @@ ghost use Rattle.wire_codec.specs.Kinds.{number_of, version_of};
 ghost use Rattle.wire_codec.specs.Spelling.{version_number, Spells};
 
 use crate::kind::Kind;
-use crate::put::{put_id, put_number};
+use crate::put::put_addresses;
 use crate::put_message::put_message;
 use crate::size::message_size;
 use ring_math::OutOfMemory;
@@ -22,9 +22,15 @@ const ADDRESSES: usize = 40;
 fn put_header(out: &mut Vec<u8>, kind: Kind, size: u32) -> Result<(), OutOfMemory>
     ensures { OnOk result (out.new.items ≡ out.old.items ++ (version_number (version_of kind) ∷ number_of kind ∷ to_be_bytes w32 size)) }
 {
-    out.push(kind.version().number())?;
-    out.push(kind.number())?;
-    out.extend_from_slice(&size.to_be_bytes())?;
+    let [first, second, third, fourth] = size.to_be_bytes();
+    out.extend_from_slice(&[
+        kind.version().number(),
+        kind.number(),
+        first,
+        second,
+        third,
+        fourth,
+    ])?;
     Ok(())
 }
 
@@ -35,9 +41,7 @@ pub fn encode(alloc: Global, envelope: &Envelope) -> Result<Frame, OutOfMemory>
     let size = ADDRESSES + message_size(&envelope.message);
     let mut out = Vec::with_capacity(alloc, HEADER + size)?;
     put_header(&mut out, Kind::of_message(&envelope.message), size as u32)?;
-    put_id(&mut out, envelope.sender)?;
-    put_id(&mut out, envelope.receiver)?;
-    put_number(&mut out, envelope.stamp)?;
+    put_addresses(&mut out, envelope.sender, envelope.receiver, envelope.stamp)?;
     put_message(&mut out, &envelope.message)?;
     Ok(Frame::from(out))
 }

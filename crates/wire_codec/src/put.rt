@@ -1,7 +1,7 @@
 //! Writing one field of a frame at the end of the bytes.
 
 ghost use Rattle.std.specs.Prelude.{◌≡◌, ◌++◌, ◌∷◌, [], ◌<◌, ◌^◌, OnOk};
-ghost use Rattle.std.specs.Int.{w128, to_be_bytes};
+ghost use Rattle.std.specs.Int.{w64, w128, to_be_bytes};
 ghost use Rattle.std.specs.List.{flat_map, AllByRecursion};
 ghost use Rattle.wire_codec.specs.Fields.{Field, IsFile};
 ghost use Rattle.wire_codec.specs.Writing.{Writes};
@@ -17,29 +17,103 @@ pub(crate) fn put_tag(out: &mut Vec<u8>, tag: u8) -> Result<(), OutOfMemory>
     Ok(())
 }
 
-pub(crate) fn put_id(out: &mut Vec<u8>, id: Id) -> Result<(), OutOfMemory>
-    ensures { OnOk result (Writes out.old.items out.new.items (Field.Id id ∷ [])) }
+/// One word. It is a call of its own, as the next two are, because only then is a word turned round by one instruction.
+#[inline(never)]
+fn put_word(out: &mut Vec<u8>, word: u64) -> Result<(), OutOfMemory>
+    ensures { OnOk result (out.new.items ≡ out.old.items ++ to_be_bytes w64 word) }
 {
-    // By halves, since a number of 64 bits is turned round by one instruction.
-    let high = (id.0 >> 64) as u64;
-    let low = (id.0 % (1 << 64)) as u64;
-    out.extend_from_slice(&high.to_be_bytes())?;
-    out.extend_from_slice(&low.to_be_bytes())?;
+    out.extend_from_slice(&word.to_be_bytes())?;
     Ok(())
 }
 
-pub(crate) fn put_file(out: &mut Vec<u8>, file: FileId) -> Result<(), OutOfMemory>
-    ensures { OnOk result (Writes out.old.items out.new.items (Field.File file ∷ [])) }
+pub(crate) fn put_id(out: &mut Vec<u8>, id: Id) -> Result<(), OutOfMemory>
+    ensures { OnOk result (Writes out.old.items out.new.items (Field.Id id ∷ [])) }
 {
-    out.extend_from_slice(&file.0)?;
+    put_word(out, (id.0 >> 64) as u64)?;
+    put_word(out, (id.0 % (1 << 64)) as u64)?;
+    Ok(())
+}
+
+/// Three words at once.
+#[inline(never)]
+fn put_three_words(out: &mut Vec<u8>, a: u64, b: u64, c: u64) -> Result<(), OutOfMemory>
+    ensures { OnOk result (out.new.items ≡ out.old.items ++ flat_map (to_be_bytes w64) (a ∷ (b ∷ (c ∷ [])))) }
+{
+    let words = [a.to_be_bytes(), b.to_be_bytes(), c.to_be_bytes()];
+    out.extend_from_slice(words.as_flattened())?;
+    Ok(())
+}
+
+/// The command that is asked: its origin and number.
+pub(crate) fn put_asked(out: &mut Vec<u8>, origin: Id, number: u64) -> Result<(), OutOfMemory>
+    ensures { OnOk result (Writes out.old.items out.new.items (Field.Id origin ∷ (Field.Number number ∷ []))) }
+{
+    put_three_words(
+        out,
+        (origin.0 >> 64) as u64,
+        (origin.0 % (1 << 64)) as u64,
+        number,
+    )?;
+    Ok(())
+}
+
+/// Five words at once.
+#[inline(never)]
+fn put_five_words(
+    out: &mut Vec<u8>,
+    a: u64,
+    b: u64,
+    c: u64,
+    d: u64,
+    e: u64,
+) -> Result<(), OutOfMemory>
+    ensures { OnOk result (out.new.items ≡ out.old.items ++ flat_map (to_be_bytes w64) (a ∷ (b ∷ (c ∷ (d ∷ (e ∷ [])))))) }
+{
+    let words = [
+        a.to_be_bytes(),
+        b.to_be_bytes(),
+        c.to_be_bytes(),
+        d.to_be_bytes(),
+        e.to_be_bytes(),
+    ];
+    out.extend_from_slice(words.as_flattened())?;
+    Ok(())
+}
+
+/// Sender, receiver and stamp of an envelope.
+pub(crate) fn put_addresses(
+    out: &mut Vec<u8>,
+    sender: Id,
+    receiver: Id,
+    stamp: u64,
+) -> Result<(), OutOfMemory>
+    ensures { OnOk result (Writes out.old.items out.new.items (Field.Id sender ∷ (Field.Id receiver ∷ (Field.Number stamp ∷ [])))) }
+{
+    put_five_words(
+        out,
+        (sender.0 >> 64) as u64,
+        (sender.0 % (1 << 64)) as u64,
+        (receiver.0 >> 64) as u64,
+        (receiver.0 % (1 << 64)) as u64,
+        stamp,
+    )?;
+    Ok(())
+}
+
+/// A file identifier. It is a call of its own, so that only messages with a file have room for a copy of one.
+#[inline(never)]
+pub(crate) fn put_file(out: &mut Vec<u8>, file: &FileId) -> Result<(), OutOfMemory>
+    ensures { OnOk result (Writes out.old.items out.new.items (Field.File file.now ∷ [])) }
+{
+    let whole = *file;
+    out.extend_from_slice(&whole.0)?;
     Ok(())
 }
 
 pub(crate) fn put_number(out: &mut Vec<u8>, number: u64) -> Result<(), OutOfMemory>
     ensures { OnOk result (Writes out.old.items out.new.items (Field.Number number ∷ [])) }
 {
-    out.extend_from_slice(&number.to_be_bytes())?;
-    Ok(())
+    put_word(out, number)
 }
 
 pub(crate) fn put_attempt(out: &mut Vec<u8>, attempt: u32) -> Result<(), OutOfMemory>
@@ -95,7 +169,7 @@ fn put_each_file(out: &mut Vec<u8>, files: &[FileId]) -> Result<(), OutOfMemory>
     ensures fits { OnOk result (AllByRecursion IsFile files.now) }
 {
     for file in files {
-        put_file(out, *file)?;
+        put_file(out, file)?;
     }
     Ok(())
 }

@@ -6,8 +6,8 @@ ghost use Rattle.wire_codec.specs.Kinds.{fields_of, fields_of_why, fields_of_rep
 ghost use Rattle.wire_codec.specs.Writing.{Writes};
 
 use crate::put::{
-    put_attempt, put_bytes, put_copies, put_file, put_files, put_hops, put_id, put_ids, put_number,
-    put_tag,
+    put_asked, put_attempt, put_bytes, put_copies, put_file, put_files, put_hops, put_id, put_ids,
+    put_number, put_tag,
 };
 use ring_math::{FileIds, OutOfMemory};
 use wire_msg::{Message, Reply, Why};
@@ -98,7 +98,7 @@ fn put_tombs(out: &mut Vec<u8>, tombs: &FileIds) -> Result<(), OutOfMemory>
     Ok(())
 }
 
-#[tactic(auto, using(crate::proofs::Written::writes_then))]
+#[tactic(auto, using(crate::proofs::Written::writes_then, crate::proofs::Written::asked_then))]
 pub(crate) fn put_message(out: &mut Vec<u8>, message: &Message) -> Result<(), OutOfMemory>
     ensures { OnOk result (Writes out.old.items out.new.items (fields_of (plain message.now))) }
 {
@@ -109,8 +109,7 @@ pub(crate) fn put_message(out: &mut Vec<u8>, message: &Message) -> Result<(), Ou
             key,
             hops,
         } => {
-            put_id(out, *origin)?;
-            put_number(out, *number)?;
+            put_asked(out, *origin, *number)?;
             put_id(out, *key)?;
             put_hops(out, *hops)?;
         }
@@ -126,10 +125,9 @@ pub(crate) fn put_message(out: &mut Vec<u8>, message: &Message) -> Result<(), Ou
             copies,
             bytes,
         } => {
-            put_id(out, *origin)?;
-            put_number(out, *number)?;
+            put_asked(out, *origin, *number)?;
             put_hops(out, *hops)?;
-            put_file(out, *file)?;
+            put_file(out, file)?;
             put_copies(out, *copies)?;
             put_bytes(out, bytes)?;
         }
@@ -143,10 +141,9 @@ pub(crate) fn put_message(out: &mut Vec<u8>, message: &Message) -> Result<(), Ou
             hops,
             file,
         } => {
-            put_id(out, *origin)?;
-            put_number(out, *number)?;
+            put_asked(out, *origin, *number)?;
             put_hops(out, *hops)?;
-            put_file(out, *file)?;
+            put_file(out, file)?;
         }
         Message::FetchReply { number, reply } => {
             put_number(out, *number)?;
@@ -199,7 +196,7 @@ pub(crate) fn put_message(out: &mut Vec<u8>, message: &Message) -> Result<(), Ou
             put_why(out, why)?;
         }
         Message::Handover { file, bytes } => {
-            put_file(out, *file)?;
+            put_file(out, file)?;
             put_bytes(out, bytes)?;
         }
         Message::Release { attempt } => {
@@ -215,9 +212,8 @@ pub(crate) fn put_message(out: &mut Vec<u8>, message: &Message) -> Result<(), Ou
             file,
             bytes,
         } => {
-            put_id(out, *origin)?;
-            put_number(out, *number)?;
-            put_file(out, *file)?;
+            put_asked(out, *origin, *number)?;
+            put_file(out, file)?;
             put_bytes(out, bytes)?;
         }
         Message::ReplicaAck {
@@ -225,9 +221,8 @@ pub(crate) fn put_message(out: &mut Vec<u8>, message: &Message) -> Result<(), Ou
             number,
             file,
         } => {
-            put_id(out, *origin)?;
-            put_number(out, *number)?;
-            put_file(out, *file)?;
+            put_asked(out, *origin, *number)?;
+            put_file(out, file)?;
         }
         Message::Reclaim {
             origin,
@@ -235,10 +230,9 @@ pub(crate) fn put_message(out: &mut Vec<u8>, message: &Message) -> Result<(), Ou
             hops,
             file,
         } => {
-            put_id(out, *origin)?;
-            put_number(out, *number)?;
+            put_asked(out, *origin, *number)?;
             put_hops(out, *hops)?;
-            put_file(out, *file)?;
+            put_file(out, file)?;
         }
         Message::ReclaimReply { number, reply } => {
             put_number(out, *number)?;

@@ -1,5 +1,5 @@
 -- Each identifier finds room.
-use Rattle.std.proofs.Common.{List, []}
+use Rattle.std.proofs.Common.{[]}
 use Rattle.std.specs.Int.{w128, from_be_bytes}
 use Rattle.wire_codec.proofs.Lists.{pushed_more}
 use Rattle.wire_codec.proofs.owned.owned_ids.Goals as goal

@@ -1,5 +1,5 @@
 -- The halves of an identifier are its 16 bytes.
-use Rattle.std.proofs.Common.{◌≡◌, ℕ, ◌+◌, ◌*◌, ◌/◌, ◌%◌, ◌<◌, ◌^◌, List, [], ◌∷◌, arith, subst}
+use Rattle.std.proofs.Common.{ℕ, ◌/◌, ◌%◌, ◌<◌, ◌^◌, [], ◌∷◌, arith, subst}
 use Rattle.wire_codec.specs.Fields.{Field}
 use Rattle.wire_codec.specs.Writing.{Writes}
 use Rattle.wire_codec.proofs.Written.{id_written}
@@ -7,9 +7,7 @@ use Rattle.wire_codec.proofs.put.put_id.Goals as goal
 
 pub returns : goal.returns
 returns c =
-    let first = rw c.to_be_bytes.ensures at c.in_ok-extend_from_slice.ensures.items in
-    let second = rw c.to_be_bytes-2.ensures at c.in_ok-extend_from_slice-2.ensures.items in
     let id : ℕ = c.id.inside.0 in
     let fits : id < 2 ^ 128 = c.id.invariant in
-    subst (λ (n : ℕ). Writes c.args.out.now.items c.extend_from_slice-2.new.self.items (Field.Id n ∷ [])) c.id.view_is
-    (id_written id (id / 18446744073709551616) (id % 18446744073709551616) fits (omega arith) (omega arith) (omega arith) first second)
+    subst (λ (n : ℕ). Writes c.args.out.now.items c.put_word-2.new.out.items (Field.Id n ∷ [])) c.id.view_is
+    (id_written id (id / 18446744073709551616) (id % 18446744073709551616) fits (omega arith) (omega arith) (omega arith) c.in_ok-put_word.ensures c.in_ok-put_word-2.ensures)
