@@ -1,6 +1,6 @@
 -- What a leaf set is seen as, and the lists that it stands for.
-use Rattle.std.specs.Prelude.{◌≡◌, ℕ, Bool, true, ◌&&◌, ◌||◌, nat_le, List, Contains}
-use Rattle.ring_math.specs.Ring.{is_nearer, shared_of}
+use Rattle.std.specs.Prelude.{◌≡◌, ℕ, Bool, true, ◌||◌, List, Contains}
+use Rattle.ring_math.specs.Nearer.{improves}
 use Rattle.ring_math.specs.Sides.{right_side, left_side, also_of, is_in}
 
 -- a node and its two sides, each nearest first
@@ -21,10 +21,6 @@ in_order s = also_of s.right s.left
 -- y stands on a side
 abbrev pub holds : Leaves → ℕ → Bool
 holds s y = is_in s.right y || is_in s.left y
-
--- z shares at least so many digits with the key, and is nearer to it than another
-abbrev pub improves : ℕ → ℕ → ℕ → ℕ → Bool
-improves key least than z = nat_le least (shared_of z key) && is_nearer z than key
 
 -- z is in the list and improves on another
 pub record Improves (ids : List ℕ) (key least than z : ℕ) : Type 0 where

@@ -2,4 +2,3 @@ pub mod Leaves
 pub mod Way
 pub mod Room
 pub mod Range
-pub mod Nearer

@@ -10,8 +10,7 @@ ghost use Rattle.leaf_set.specs.Range.{is_in_range};
 
 mod side;
 
-use ring_math::{Id, Ids};
-pub use side::nearer_of;
+use ring_math::{Id, Ids, nearer_of};
 use side::{Side, Way};
 use std::marker::Model;
 

@@ -4,12 +4,11 @@ ghost use Rattle.std.specs.Prelude.{◌≡◌, ◌<◌, ◌≤◌, ◌-◌, ◌+
 ghost use Rattle.std.specs.List.{position_or_len};
 ghost use Rattle.ring_math.specs.Members.{IsClosest};
 ghost use Rattle.ring_math.specs.Sides.{placed, is_in};
-ghost use Rattle.leaf_set.specs.Leaves.{Improves, improves as improves_on};
-ghost use Rattle.leaf_set.specs.Nearer.{nearer_of as nearer_in};
+ghost use Rattle.leaf_set.specs.Leaves.{Improves};
 ghost use Rattle.leaf_set.specs.Room.{put_in as put_in_of};
 ghost use Rattle.leaf_set.specs.Way.{far, reaches as reaches_of};
 
-use ring_math::{Id, Ids, cw, nearer, shared};
+use ring_math::{Id, Ids, cw, improves, nearer_of};
 use std::marker::Model;
 
 /// How many identifiers a side holds at most.
@@ -29,24 +28,6 @@ fn distance(me: Id, way: Way, id: Id) -> u128
     match way {
         Way::Clockwise => cw(me, id),
         Way::Counterclockwise => cw(id, me),
-    }
-}
-
-/// Whether an identifier shares at least so many digits with the key and is nearer to it than another.
-fn improves(id: Id, key: Id, least: u8, than: Id) -> bool
-    ensures { result ≡ improves_on key least than id }
-{
-    least <= shared(id, key) && nearer(id, than, key)
-}
-
-/// The nearer to the key of two that may be missing, and of two at one place the first.
-pub fn nearer_of(first: Option<Id>, second: Option<Id>, key: Id) -> Option<Id>
-    ensures { result ≡ nearer_in first second key }
-{
-    match (first, second) {
-        (Some(x), Some(y)) if !nearer(y, x, key) => first,
-        (Some(_), None) => first,
-        _ => second,
     }
 }
 

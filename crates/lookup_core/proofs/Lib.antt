@@ -1,3 +1,4 @@
 pub mod Learning
+mod Search
 pub mod Nearest
 pub mod Hops

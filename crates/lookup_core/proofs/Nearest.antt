@@ -15,8 +15,9 @@ use Rattle.coverage.specs.NextHop.{is_better}
 use Rattle.coverage.proofs.Nearest.{closest_in-closest}
 use Rattle.coverage.proofs.Leaves.{leaf_is_known, entry_is_known}
 use Rattle.leaf_set.specs.Leaves.{Leaves, StandsFor as LeafSetStandsFor, Improves as LeafImproves, in_order}
-use Rattle.leaf_set.specs.Nearer.{nearer_of}
-use Rattle.leaf_set.proofs.Found.{Found, found_same, found_both, either, better_in, says_found, listed_found}
+use Rattle.ring_math.specs.Nearer.{nearer_of}
+use Rattle.ring_math.proofs.Found.{Found, found_same, found_both, either, says_found, listed_found}
+use Rattle.leaf_set.proofs.Found.{better_in}
 use Rattle.route_table.specs.Entries.{Table, StandsFor as TableStandsFor, Improves as EntryImproves, entry_in}
 use Rattle.lookup_core.specs.Kept.{Kept, StandsFor, Others}
 

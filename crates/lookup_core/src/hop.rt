@@ -11,8 +11,7 @@ ghost use Rattle.lookup_core.specs.Kept.{StandsFor, Others, if_nearer};
 
 use crate::knowledge::Knowledge;
 use coverage::{Hop, Reach, covers, gap};
-use leaf_set::nearer_of;
-use ring_math::{Id, digit, nearer, shared};
+use ring_math::{Id, digit, nearer, nearer_of, shared};
 
 /// The leaf that no leaf is nearer to the key than.
 fn nearest_leaf(known: &Knowledge, key: Id) -> Option<Id>

@@ -8,4 +8,6 @@ pub use hop::next_hop;
 pub use knowledge::Knowledge;
 
 #[cfg(test)]
+mod slow;
+#[cfg(test)]
 mod tests;

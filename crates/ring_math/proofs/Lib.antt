@@ -1,5 +1,6 @@
 pub mod Distances
 pub mod Nearness
+pub mod Found
 pub mod Membership
 pub mod Neighbours
 pub mod Counts

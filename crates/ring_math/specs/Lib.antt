@@ -1,5 +1,6 @@
 pub mod Ring
 pub mod Members
+pub mod Nearer
 pub mod Bytewise
 pub mod Keys
 pub mod Texts

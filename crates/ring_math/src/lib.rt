@@ -7,6 +7,7 @@ mod file;
 mod id;
 mod lists;
 mod memory;
+mod nearest;
 mod text;
 
 pub use circle::{between, cw, dist, nearer, order_law};
@@ -15,6 +16,7 @@ pub use file::{FileId, Held, file_id, key_of};
 pub use id::{Id, id_of_name};
 pub use lists::{Bytes, BytesFault, FileIds, Ids};
 pub use memory::OutOfMemory;
+pub use nearest::{improves, nearer_of};
 pub use text::{IdFault, id_from_hex, id_to_hex};
 
 #[cfg(test)]

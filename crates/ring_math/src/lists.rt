@@ -55,7 +55,8 @@ impl Bytes {
         if bytes.len() > 4096 {
             return Err(BytesFault::TooLong { found: bytes.len() });
         }
-        let items = bytes.to_vec(alloc)?;
+        let mut items = Vec::with_capacity(alloc, bytes.len())?;
+        items.extend_from_slice(bytes)?;
         Ok(Bytes { items })
     }
 
@@ -71,7 +72,8 @@ impl Bytes {
     pub fn copy(&self, alloc: Global) -> Result<Bytes, OutOfMemory>
         ensures { IfOk result (λ bytes. bytes ≡ self.now) }
     {
-        let items = self.items.as_slice().to_vec(alloc)?;
+        let mut items = Vec::with_capacity(alloc, self.items.len())?;
+        items.extend_from_slice(self.items.as_slice())?;
         Ok(Bytes { items })
     }
 }

@@ -1,6 +1,7 @@
 -- What a prefix table is seen as, and the lists that it stands for.
-use Rattle.std.specs.Prelude.{◌≡◌, ◌<◌, ℕ, ◌+◌, ◌*◌, Bool, true, not, ◌&&◌, ◌==◌, nat_le, is_none, Option, Some, None, List, length, Contains, slice_index_or, slice_set}
-use Rattle.ring_math.specs.Ring.{digit_of, shared_of, is_nearer}
+use Rattle.std.specs.Prelude.{◌≡◌, ◌<◌, ℕ, ◌+◌, ◌*◌, Bool, true, not, ◌&&◌, ◌==◌, is_none, Option, Some, None, List, length, Contains, slice_index_or, slice_set}
+use Rattle.ring_math.specs.Ring.{digit_of, shared_of}
+use Rattle.ring_math.specs.Nearer.{improves}
 use Rattle.ring_math.specs.Sides.{entry_of}
 
 -- a node and its 32 rows of 16 entries, one row after another
@@ -24,10 +25,6 @@ is_new t y = not (y == t.me) && is_none (entry_in t (shared_of t.me y) (digit_of
 -- the table with an entry
 abbrev pub with_entry : Table → ℕ → ℕ → ℕ → Table
 with_entry t row col y = record t { entries = slice_set t.entries (16 * row + col) (Some y) }
-
--- z shares at least so many digits with the key, and is nearer to it than another
-abbrev pub improves : ℕ → ℕ → ℕ → ℕ → Bool
-improves key least than z = nat_le least (shared_of z key) && is_nearer z than key
 
 -- z is an entry and improves on another
 pub record Improves (entries : List (Option ℕ)) (key least than z : ℕ) : Type 0 where

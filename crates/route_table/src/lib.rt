@@ -7,10 +7,10 @@ ghost use Rattle.std.specs.Bool.{OnTrue, OnFalse};
 ghost use Rattle.ring_math.specs.Members.{IsClosest};
 ghost use Rattle.ring_math.specs.Ring.{shared_of};
 ghost use Rattle.ring_math.specs.Sides.{learn as learn_of};
-ghost use Rattle.route_table.specs.Best.{nearer_of as nearer_in, better_of as better_in};
-ghost use Rattle.route_table.specs.Entries.{StandsFor, Improves, improves as improves_on, entry_in, is_new, with_entry};
+ghost use Rattle.route_table.specs.Best.{better_of as better_in};
+ghost use Rattle.route_table.specs.Entries.{StandsFor, Improves, entry_in, is_new, with_entry};
 
-use ring_math::{Id, OutOfMemory, digit, nearer, shared};
+use ring_math::{Id, OutOfMemory, digit, improves, nearer_of, shared};
 use std::alloc::Global;
 use std::marker::Model;
 
@@ -55,29 +55,12 @@ fn row_of(me: Id, id: Id) -> u8
     shared(me, id)
 }
 
-/// Whether an identifier shares at least so many digits with the key and is nearer to it than another.
-fn improves(id: Id, key: Id, least: u8, than: Id) -> bool
-    ensures { result ≡ improves_on key least than id }
-{
-    least <= shared(id, key) && nearer(id, than, key)
-}
-
-/// This identifier where it is nearer to the key than the best so far, else that.
-fn nearer_of(best: Option<Id>, id: Id, key: Id) -> Option<Id>
-    ensures { result ≡ nearer_in best id key }
-{
-    match best {
-        Some(other) if !nearer(id, other, key) => best,
-        _ => Some(id),
-    }
-}
-
-/// The same with an entry, which counts where it holds an identifier that improves.
+/// The best so far with one entry more, which counts where it holds an identifier that improves.
 fn better_of(best: Option<Id>, entry: Option<Id>, key: Id, least: u8, than: Id) -> Option<Id>
     ensures { result ≡ better_in best entry key least than }
 {
     match entry {
-        Some(id) if improves(id, key, least, than) => nearer_of(best, id, key),
+        Some(id) if improves(id, key, least, than) => nearer_of(best, Some(id), key),
         _ => best,
     }
 }

@@ -1,7 +1,8 @@
 use Rattle.std.proofs.Common.{subst}
 use Rattle.leaf_set.specs.Leaves.{Leaves, in_order}
-use Rattle.leaf_set.specs.Nearer.{nearer_of}
-use Rattle.leaf_set.proofs.Found.{Found, better_in, found_better_leaf, found_says, says_found}
+use Rattle.ring_math.specs.Nearer.{nearer_of}
+use Rattle.ring_math.proofs.Found.{Found, found_says, says_found}
+use Rattle.leaf_set.proofs.Found.{better_in, found_better_leaf}
 use Rattle.leaf_set.proofs.LeafSet.best.Goals as goal
 
 pub returns : goal.returns

@@ -1,8 +1,9 @@
 use Rattle.std.proofs.Common.{subst}
 use Rattle.std.specs.List.{Contains}
 use Rattle.leaf_set.specs.Leaves.{Leaves, in_order}
-use Rattle.leaf_set.specs.Nearer.{nearer_of}
-use Rattle.leaf_set.proofs.Found.{Found, found_leaf, found_listed, listed_found}
+use Rattle.ring_math.specs.Nearer.{nearer_of}
+use Rattle.ring_math.proofs.Found.{Found, found_listed, listed_found}
+use Rattle.leaf_set.proofs.Found.{found_leaf}
 use Rattle.leaf_set.proofs.LeafSet.nearest.Goals as goal
 
 pub returns : goal.returns

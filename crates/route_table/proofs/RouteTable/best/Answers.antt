@@ -1,6 +1,7 @@
 use Rattle.std.proofs.Common.{◌≡◌, take, ◌∙◌, subst, arith}
 use Rattle.std.proofs.lemmas.List.{take_all}
-use Rattle.route_table.proofs.Found.{Found, better_in, found_more, found_says}
+use Rattle.ring_math.proofs.Found.{Found, found_says}
+use Rattle.route_table.proofs.Found.{better_in, found_more}
 use Rattle.route_table.proofs.RouteTable.best.Goals as goal
 
 pub loop-entry-preserved : goal.loop-entry-preserved

@@ -1,5 +1,6 @@
 use Rattle.std.proofs.Common.{take}
-use Rattle.route_table.proofs.Found.{Found, better_in}
+use Rattle.ring_math.proofs.Found.{Found}
+use Rattle.route_table.proofs.Found.{better_in}
 use Rattle.route_table.proofs.RouteTable.best.Given as goal
 
 abbrev pub invariant-loop-entry : goal.invariant-loop-entry

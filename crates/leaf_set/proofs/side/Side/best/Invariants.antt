@@ -1,5 +1,6 @@
 use Rattle.std.proofs.Common.{take}
-use Rattle.leaf_set.proofs.Found.{Found, better_in}
+use Rattle.ring_math.proofs.Found.{Found}
+use Rattle.leaf_set.proofs.Found.{better_in}
 use Rattle.leaf_set.proofs.side.Side.best.Given as goal
 
 abbrev pub invariant-loop-id : goal.invariant-loop-id

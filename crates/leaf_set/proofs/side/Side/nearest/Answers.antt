@@ -1,7 +1,8 @@
 use Rattle.std.proofs.Common.{◌≡◌, take, ◌∙◌, subst, arith}
 use Rattle.std.specs.List.{Contains}
 use Rattle.std.proofs.lemmas.List.{take_all}
-use Rattle.leaf_set.proofs.Found.{Found, found_more, found_listed}
+use Rattle.ring_math.proofs.Found.{Found, found_listed}
+use Rattle.leaf_set.proofs.Found.{found_more}
 use Rattle.leaf_set.proofs.side.Side.nearest.Goals as goal
 
 pub loop-id-preserved : goal.loop-id-preserved

@@ -1,6 +1,6 @@
 use Rattle.std.proofs.Common.{take}
 use Rattle.std.specs.List.{Contains}
-use Rattle.leaf_set.proofs.Found.{Found}
+use Rattle.ring_math.proofs.Found.{Found}
 use Rattle.leaf_set.proofs.side.Side.nearest.Given as goal
 
 abbrev pub invariant-loop-id : goal.invariant-loop-id
