@@ -121,7 +121,7 @@ has_lasts g w e x i h t z right j a lists k le unready = record {
   same = k.same;
 }
 
-unready_before : (states : ℕ → State) (x : ℕ) (i : Input) (y : ℕ) → is_ready (state_at states x (step (states x) i).state y).phase ≡ false → is_ready (states y).phase ≡ false
+pub unready_before : (states : ℕ → State) (x : ℕ) (i : Input) (y : ℕ) → is_ready (state_at states x (step (states x) i).state y).phase ≡ false → is_ready (states y).phase ≡ false
 unready_before states x i y f = false_from_ne_true _ (λ r. let ready = ready_stays states x i y r in cc)
 
 -- a Grant that stood stands

@@ -99,7 +99,7 @@ again_has s from a l r x y h =
       sides = and_parts (not (s.me == l) || is_gate_of from a (bare s.right_gate)) (not (s.me == r) || is_gate_of from a (bare s.left_gate)) parts.1
 
 -- a side is asked for
-asked_side : (s : State) (from l r x y : ℕ) → fits (links_of s x y) s.me from l r ≡ true → (right : Bool) × (s.me ≡ pick (not right) l r)
+pub asked_side : (s : State) (from l r x y : ℕ) → fits (links_of s x y) s.me from l r ≡ true → (right : Bool) × (s.me ≡ pick (not right) l r)
 asked_side s from l r x y f =
     elim (or_cases (s.me == l) (s.me == r) asked) [
       | inl e ↦ (true, (Decides-eqb s.me l).0 e)
@@ -195,14 +195,14 @@ kept_first-on P is_side (Some lists) new h g = h
 kept_first-on P true None new h g = g refl
 kept_first-on P false None new h g = tt
 
-on_some : (P : Lists → Type 0) (o : Option Lists) (lists : Lists) → OnKept P o → o ≡ Some lists → P lists
+pub on_some : (P : Lists → Type 0) (o : Option Lists) (lists : Lists) → OnKept P o → o ≡ Some lists → P lists
 on_some P o lists h e = subst (OnKept P) e h
 
-kept_at : (F : ℕ → State) (i : ℕ) (p q : Phase) → PhaseKept F i p → p ≡ q → PhaseKept F i q
+pub kept_at : (F : ℕ → State) (i : ℕ) (p q : Phase) → PhaseKept F i p → p ≡ q → PhaseKept F i q
 kept_at F i p q h e = subst (PhaseKept F i) e h
 
 -- what is kept once a Grant has come
-kept_then : (F : ℕ → State) (i : ℕ) (p : Phase) (from a n l r : ℕ) (fl fr : Option Lists) (lists : Lists) → p ≡ Leasing a n l r fl fr → GrantBrings F i p from a lists → PhaseKept F i p →
+pub kept_then : (F : ℕ → State) (i : ℕ) (p : Phase) (from a n l r : ℕ) (fl fr : Option Lists) (lists : Lists) → p ≡ Leasing a n l r fl fr → GrantBrings F i p from a lists → PhaseKept F i p →
     OnKept (HasLease true (F l) i a) (kept_first (from == l) fl lists) × OnKept (HasLease false (F r) i a) (kept_first (from == r) fr lists)
 kept_then F i p from a n l r fl fr lists e b h =
     let k = kept_at F i p (Leasing a n l r fl fr) h e in (

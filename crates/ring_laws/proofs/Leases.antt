@@ -98,7 +98,7 @@ known_fits s t m p same h = record {
   };
 }
 
-lease_on-without : (test : Gate → Bool) (s : State) (right : Bool) → lease_on right (without_gates test s) ≡ unless_lease test (lease_on right s)
+pub lease_on-without : (test : Gate → Bool) (s : State) (right : Bool) → lease_on right (without_gates test s) ≡ unless_lease test (lease_on right s)
 lease_on-without test s true = refl
 lease_on-without test s false = refl
 
@@ -166,7 +166,7 @@ pub implied : (a b : Bool) → not a || b ≡ true → a ≡ true → b ≡ true
 implied true b e f = e
 implied false b e f = cc
 
-same_number : (m n : ℕ) → m == n ≡ true → m ≡ n
+pub same_number : (m n : ℕ) → m == n ≡ true → m ≡ n
 same_number m n e = (Decides-eqb m n).0 e
 
 -- the side that is asked for, by the neighbour that the node is to be
@@ -190,11 +190,11 @@ free_side s right from a l r x y b f asked = by right asked where
     link = sym (same_number x l (implied (s.me == r) (x == l) sides.1 e));
   }
 
-gate_on_some : (asked : Bool) (new : Lease) (old : Option Lease) (lease : Lease) → gate_on asked new old ≡ Some lease → ((asked ≡ true) × (new ≡ lease)) ⊎ ((asked ≡ false) × (old ≡ Some lease))
+pub gate_on_some : (asked : Bool) (new : Lease) (old : Option Lease) (lease : Lease) → gate_on asked new old ≡ Some lease → ((asked ≡ true) × (new ≡ lease)) ⊎ ((asked ≡ false) × (old ≡ Some lease))
 gate_on_some true new old lease e = let same : new ≡ lease = cc in inl (refl, same)
 gate_on_some false new old lease e = inr (refl, e)
 
-lease_on-new : (c : State) (from a l r : ℕ) (lists : Lists) (right : Bool) →
+pub lease_on-new : (c : State) (from a l r : ℕ) (lists : Lists) (right : Bool) →
     lease_on right (with_lease c from a l r lists) ≡ gate_on (c.me == pick (not right) l r) (lease_of from a l r lists) (lease_on right c)
 lease_on-new c from a l r lists true = refl
 lease_on-new c from a l r lists false = refl
@@ -253,11 +253,11 @@ still s right = refl
 is_unready : (s : State) (p : Phase) → s.phase ≡ p → is_ready p ≡ false → is_ready s.phase ≡ false
 is_unready s p e f = ap is_ready e ∙ f
 
-lease_on-but : (s t : State) → t.left_gate ≡ s.left_gate → t.right_gate ≡ s.right_gate → (right : Bool) → lease_on right t ≡ lease_on right s
+pub lease_on-but : (s t : State) → t.left_gate ≡ s.left_gate → t.right_gate ≡ s.right_gate → (right : Bool) → lease_on right t ≡ lease_on right s
 lease_on-but s t e f true = f
 lease_on-but s t e f false = e
 
-lease_on-confirmed : (s : State) (from a b x y : ℕ) (right : Bool) → lease_on right (confirmed s from a b x y) ≡ unless_lease (is_of from a) (lease_on right s)
+pub lease_on-confirmed : (s : State) (from a b x y : ℕ) (right : Bool) → lease_on right (confirmed s from a b x y) ≡ unless_lease (is_of from a) (lease_on right s)
 lease_on-confirmed s from a b x y true = refl
 lease_on-confirmed s from a b x y false = refl
 

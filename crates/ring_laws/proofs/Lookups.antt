@@ -154,7 +154,7 @@ one_kept g w e x i k t s y z n c d a b =
 
 -- ---- one step keeps it
 
-way_ready : (s : State) (key y : ℕ) (p : Phase) → way_in s key p ≡ way.To y → is_ready p ≡ true
+pub way_ready : (s : State) (key y : ℕ) (p : Phase) → way_in s key p ≡ way.To y → is_ready p ≡ true
 way_ready s key y (Ready a l r) e = refl
 way_ready s key y (Waiting a) e = cc
 way_ready s key y (Asking a n) e = cc
@@ -181,7 +181,7 @@ command_carries g v x n (command.Reclaim file) h said = h
 command_carries g v x n (command.Join via) h said = tt
 command_carries g v x n command.GiveUp h said = tt
 
-input_carries : (g : Setting) (w : World) (e : Entry) (x : ℕ) (i : Input) → RequestsHold g w → Takes g w e x i → (s : State) → Later g w (stepped w e x s) →
+pub input_carries : (g : Setting) (w : World) (e : Entry) (x : ℕ) (i : Input) → RequestsHold g w → Takes g w e x i → (s : State) → Later g w (stepped w e x s) →
     InputCarries (WasCommanded (stepped w e x s)) (OnTheWay g (stepped w e x s)) x i
 input_carries g w e x i k t s l = by e.event refl x i t.arrives where
   v : World
@@ -243,7 +243,7 @@ keeps g set w e x i h k t =
 
 -- ---- at the start
 
-nobody_commanded : (g : Setting) (x n : ℕ) (c : NodeCommand) → WasCommanded (world_at_start g) x n c → ⊥
+pub nobody_commanded : (g : Setting) (x n : ℕ) (c : NodeCommand) → WasCommanded (world_at_start g) x n c → ⊥
 nobody_commanded g x n c h = let lt = h.1.1 in absurd (omega arith)
 
 start_pending : (P : Pending → Type 0) (y : ℕ) (b : Bool) → Each P (start y b).pending

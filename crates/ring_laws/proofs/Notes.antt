@@ -48,7 +48,7 @@ to_here (hop.Gap i) e = cc
 to_here (hop.To y) e = cc
 
 -- where a key is Here the node covers it
-here_covers : (g : Setting) (w : World) (x key : ℕ) → IsSetting g → MessagesHold g w → Contains g.nodes x → key < 2 ^ 128 → (p : Phase) → (w.states x).phase ≡ p → way_in (w.states x) key p ≡ way.Here → Covers (w.states x) key
+pub here_covers : (g : Setting) (w : World) (x key : ℕ) → IsSetting g → MessagesHold g w → Contains g.nodes x → key < 2 ^ 128 → (p : Phase) → (w.states x).phase ≡ p → way_in (w.states x) key p ≡ way.Here → Covers (w.states x) key
 here_covers g w x key set h member hk (Ready a l r) e f =
     (a, (l, (r, (e, next_hop-here (reach (w.states x) l r) (w.states x).known key (can_go_on g w x key a l r set h member hk e) (to_here (next_hop_of (reach (w.states x) l r) (w.states x).known key) f)))))
 here_covers g w x key set h member hk (Waiting a) e f = cc

@@ -23,11 +23,11 @@ joins_hold g es r i = always g (Both (Both (MessagesHold g) (GatesHold g)) (Ring
 
 -- ---- the reach of a ready node
 
-short-joiner : (o : Option Lease) → links.joiner_of (short o) ≡ joiner_of o
+pub short-joiner : (o : Option Lease) → links.joiner_of (short o) ≡ joiner_of o
 short-joiner None = refl
 short-joiner (Some lease) = refl
 
-reach_is : (x : ℕ) (s : State) (a l r : ℕ) → s.me ≡ x → s.phase ≡ Ready a l r → reach_of x (side_of s) ≡ reach s l r
+pub reach_is : (x : ℕ) (s : State) (a l r : ℕ) → s.me ≡ x → s.phase ≡ Ready a l r → reach_of x (side_of s) ≡ reach s l r
 reach_is x s a l r m e = λ i. record {
   me = sym m i;
   left = ap (link_of false) e i;
@@ -49,7 +49,7 @@ ready_of w y = is_ready (w.states y).phase
 pub covers_ready : (s : State) (key : ℕ) → Covers s key → is_ready s.phase ≡ true
 covers_ready s key c = ap is_ready c.1.1.1.0
 
-covers_by : (g : Setting) (w : World) (x key : ℕ) → JoinsHold g w → Covers (w.states x) key → covers_of (reach_of x (sides_in w.states x)) key ≡ true
+pub covers_by : (g : Setting) (w : World) (x key : ℕ) → JoinsHold g w → Covers (w.states x) key → covers_of (reach_of x (sides_in w.states x)) key ≡ true
 covers_by g w x key h c =
     subst (λ r. covers_of r key ≡ true) (sym (reach_is x (w.states x) c.0 c.1.0 c.1.1.0 (h.below.below.me x) c.1.1.1.0)) c.1.1.1.1
 
@@ -68,7 +68,7 @@ unfolding ready_of
 one_covers g w key x y h hk cx cy =
     ring_one (ready_of w) (attempt_in w.states) (sides_in w.states) x y key h.above.ring hk (covers_ready (w.states x) key cx) (covers_ready (w.states y) key cy) (covers_by g w x key h cx) (covers_by g w y key h cy)
 
-keeps_is : (g : Setting) (w : World) (x key j a l r : ℕ) → JoinsHold g w → (w.states x).phase ≡ Ready a l r → Keeps (ReadyIn w.states) (reach_of x (sides_in w.states x)) key j →
+pub keeps_is : (g : Setting) (w : World) (x key j a l r : ℕ) → JoinsHold g w → (w.states x).phase ≡ Ready a l r → Keeps (ReadyIn w.states) (reach_of x (sides_in w.states x)) key j →
     KeepsFor (w.states x) j key × (is_ready (w.states j).phase ≡ false)
 keeps_is g w x key j a l r h e k =
     ((a, (l, (r, (e, joins k.joiner, subst (λ q. in_gap_of q j key ≡ true) (reach_is x (w.states x) a l r (h.below.below.me x) e) k.gap)))), false_from_ne_true _ k.absent) where

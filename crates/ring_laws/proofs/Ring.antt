@@ -72,7 +72,7 @@ ring_kept g w e x i set h k t same =
 
 -- ---- one node becomes ready
 
-is_link : (right : Bool) (p : Phase) (y : ℕ) → IsLinkOf right p y → link_of right p ≡ y
+pub is_link : (right : Bool) (p : Phase) (y : ℕ) → IsLinkOf right p y → link_of right p ≡ y
 is_link right (Ready a l r) y e = sym e
 is_link right (Waiting a) y e = absurd e
 is_link right (Asking a n) y e = absurd e
@@ -80,10 +80,10 @@ is_link right (Probing a n probed) y e = absurd e
 is_link right (Leasing a n l r fl fr) y e = absurd e
 
 -- the holder's link on that side is the other end of the lease, and its gate is the joiner's
-holder_link : (s : State) (right : Bool) (i a : ℕ) (lists : Lists) → LeasesFit s → (has : HasLease right s i a lists) → link_of right s.phase ≡ end_in right has.lease.gate
+pub holder_link : (s : State) (right : Bool) (i a : ℕ) (lists : Lists) → LeasesFit s → (has : HasLease right s i a lists) → link_of right s.phase ≡ end_in right has.lease.gate
 holder_link s right i a lists f has = is_link right s.phase _ (f.each right has.lease has.at).link
 
-holder_gate : (s : State) (right : Bool) (i a : ℕ) (lists : Lists) → HasLease right s i a lists → short (lease_on right s) ≡ Some (record { joiner = i; attempt = a })
+pub holder_gate : (s : State) (right : Bool) (i a : ℕ) (lists : Lists) → HasLease right s i a lists → short (lease_on right s) ≡ Some (record { joiner = i; attempt = a })
 holder_gate s right i a lists has = ap short has.at ∙ ap Some (λ j. record { joiner = has.joiner j; attempt = has.attempt j })
 
 pub no_lease : (s : State) (right : Bool) → LeasesFit s → is_ready s.phase ≡ false → short (lease_on right s) ≡ None

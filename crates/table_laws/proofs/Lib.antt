@@ -1,0 +1,20 @@
+pub mod Slots
+pub mod Tables
+pub mod Apart
+pub mod FileRows
+pub mod LeaseRows
+pub mod Keys
+pub mod Holding
+pub mod Filing
+pub mod Beside
+pub mod Owners
+pub mod Stores
+pub mod AnswerRows
+pub mod Targets
+pub mod Waits
+pub mod Rising
+pub mod Rights
+pub mod Lasting
+pub mod Rightness
+pub mod Later
+mod FirstFetch
