@@ -22,4 +22,5 @@ pub mod Notes
 pub mod Closed
 pub mod Numbers
 pub mod Once
+pub mod Receivers
 mod FirstEntry

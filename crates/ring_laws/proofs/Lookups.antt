@@ -246,7 +246,7 @@ keeps g set w e x i h k t =
 pub nobody_commanded : (g : Setting) (x n : ℕ) (c : NodeCommand) → WasCommanded (world_at_start g) x n c → ⊥
 nobody_commanded g x n c h = let lt = h.1.1 in absurd (omega arith)
 
-start_pending : (P : Pending → Type 0) (y : ℕ) (b : Bool) → Each P (start y b).pending
+pub start_pending : (P : Pending → Type 0) (y : ℕ) (b : Bool) → Each P (start y b).pending
 start_pending P y b = tt
 
 requests_at_start : (g : Setting) → RequestsHold g (world_at_start g)

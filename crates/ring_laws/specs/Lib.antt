@@ -1,3 +1,4 @@
 pub mod Setting
 pub mod Closings
 pub mod Hops
+pub mod Receivers
