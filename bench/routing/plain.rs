@@ -1,0 +1,233 @@
+//! The leaf set, the prefix table and the next hop in plain Rust, and the loops of rattle.txt.
+
+use std::time::Instant;
+
+#[derive(Clone, Copy, PartialEq, Eq)]
+struct Id(u128);
+
+const ME: Id = Id(0x0123456789abcdeffedcba9876543210);
+
+fn cw(a: Id, b: Id) -> u128 {
+    b.0.wrapping_sub(a.0)
+}
+
+fn dist(a: Id, b: Id) -> u128 {
+    cw(a, b).min(cw(b, a))
+}
+
+fn between(a: Id, x: Id, b: Id) -> bool {
+    x != a && (a == b || x != b && cw(a, x) < cw(a, b))
+}
+
+fn nearer(a: Id, b: Id, key: Id) -> bool {
+    let (from_a, from_b) = (dist(a, key), dist(b, key));
+    from_a < from_b || from_a == from_b && cw(a, key) < cw(b, key)
+}
+
+fn shared(a: Id, b: Id) -> usize {
+    ((a.0 ^ b.0).leading_zeros() / 4) as usize
+}
+
+fn digit(id: Id, row: usize) -> usize {
+    (id.0 >> (124 - 4 * row)) as usize & 0xf
+}
+
+fn nearer_of(first: Option<Id>, second: Option<Id>, key: Id) -> Option<Id> {
+    match (first, second) {
+        (Some(x), Some(y)) if !nearer(y, x, key) => first,
+        (Some(_), None) => first,
+        _ => second,
+    }
+}
+
+#[derive(Clone, Copy)]
+enum Way {
+    Clockwise,
+    Counterclockwise,
+}
+
+fn distance(me: Id, way: Way, id: Id) -> u128 {
+    match way {
+        Way::Clockwise => cw(me, id),
+        Way::Counterclockwise => cw(id, me),
+    }
+}
+
+struct Side {
+    ids: [Id; 8],
+    len: usize,
+}
+
+impl Side {
+    fn as_slice(&self) -> &[Id] {
+        &self.ids[..self.len]
+    }
+
+    fn reaches(&self, me: Id, way: Way, key: Id) -> bool {
+        self.len < 8 || distance(me, way, key) <= distance(me, way, self.ids[7])
+    }
+
+    fn nearest(&self, key: Id) -> Option<Id> {
+        self.as_slice()
+            .iter()
+            .fold(None, |best, id| nearer_of(best, Some(*id), key))
+    }
+
+    fn best(&self, key: Id, least: usize, than: Id) -> Option<Id> {
+        self.as_slice()
+            .iter()
+            .filter(|id| least <= shared(**id, key) && nearer(**id, than, key))
+            .fold(None, |best, id| nearer_of(best, Some(*id), key))
+    }
+
+    fn place(&mut self, me: Id, way: Way, id: Id) {
+        let from_me = distance(me, way, id);
+        let place = self
+            .as_slice()
+            .iter()
+            .position(|other| from_me < distance(me, way, *other))
+            .unwrap_or(self.len);
+        if place < 8 {
+            self.ids.copy_within(place..7, place + 1);
+            self.ids[place] = id;
+            self.len = 8.min(self.len + 1);
+        }
+    }
+}
+
+struct Knowledge {
+    right: Side,
+    left: Side,
+    entries: Vec<Option<Id>>,
+}
+
+impl Knowledge {
+    fn learn(&mut self, id: Id) {
+        if id == ME {
+            return;
+        }
+        if !self.right.as_slice().contains(&id) && !self.left.as_slice().contains(&id) {
+            self.right.place(ME, Way::Clockwise, id);
+            self.left.place(ME, Way::Counterclockwise, id);
+        }
+        let row = shared(ME, id);
+        let place = 16 * row + digit(id, row);
+        if self.entries[place].is_none() {
+            self.entries[place] = Some(id);
+        }
+    }
+
+    fn in_range(&self, key: Id) -> bool {
+        self.right.reaches(ME, Way::Clockwise, key)
+            || self.left.reaches(ME, Way::Counterclockwise, key)
+    }
+
+    fn best(&self, key: Id) -> Option<Id> {
+        let least = shared(ME, key);
+        let leaf = nearer_of(
+            self.right.best(key, least, ME),
+            self.left.best(key, least, ME),
+            key,
+        );
+        let entry = self
+            .entries
+            .iter()
+            .flatten()
+            .filter(|id| least <= shared(**id, key) && nearer(**id, ME, key))
+            .fold(None, |best, id| nearer_of(best, Some(*id), key));
+        nearer_of(leaf, entry, key)
+    }
+
+    fn nearest(&self, key: Id) -> Option<Id> {
+        nearer_of(self.right.nearest(key), self.left.nearest(key), key)
+    }
+}
+
+enum Hop {
+    Here,
+    To(Id),
+}
+
+fn to_leaf(known: &Knowledge, key: Id) -> Hop {
+    known.nearest(key).map_or(Hop::Here, Hop::To)
+}
+
+fn next_hop(left: Id, right: Id, known: &Knowledge, key: Id) -> Hop {
+    if key == ME
+        || between(ME, key, right) && cw(ME, key) <= cw(key, right)
+        || between(left, key, ME) && cw(key, ME) < cw(left, key)
+    {
+        return Hop::Here;
+    }
+    if known.in_range(key) {
+        return to_leaf(known, key);
+    }
+    let row = shared(ME, key);
+    match known.entries[16 * row + digit(key, row)] {
+        Some(id) if nearer(id, ME, key) => Hop::To(id),
+        _ => known
+            .best(key)
+            .map_or_else(|| to_leaf(known, key), Hop::To),
+    }
+}
+
+struct Words {
+    word: u64,
+}
+
+impl Words {
+    fn next(&mut self) -> u64 {
+        self.word = self
+            .word
+            .wrapping_mul(6364136223846793005)
+            .wrapping_add(1442695040888963407);
+        self.word
+    }
+
+    fn id(&mut self) -> Id {
+        let high = self.next();
+        let low = self.next();
+        Id((u128::from(high) << 64) | u128::from(low))
+    }
+}
+
+fn fill(known: &mut Knowledge, words: &mut Words) {
+    for row in 0..32u32 {
+        for col in 0..16u128 {
+            let low = 124 - 4 * row;
+            let above = (ME.0 >> low) & !0xf;
+            let below = words.id().0 >> (127 - low) >> 1;
+            known.learn(Id(((above | col) << low) | below));
+        }
+    }
+}
+
+fn main() {
+    let side = || Side {
+        ids: [Id(0); 8],
+        len: 0,
+    };
+    let mut known = Knowledge {
+        right: side(),
+        left: side(),
+        entries: vec![None; 512],
+    };
+    let mut words = Words { word: 1 };
+    fill(&mut known, &mut words);
+    let start = Instant::now();
+    for _ in 0..1_000_000 {
+        known.learn(words.id());
+    }
+    let one = start.elapsed().as_micros();
+    let start = Instant::now();
+    let (left, right) = (known.left.ids[0], known.right.ids[0]);
+    let mut all = 0;
+    for _ in 0..1_000_000 {
+        if let Hop::To(id) = next_hop(left, right, &known, words.id()) {
+            all ^= id.0;
+        }
+    }
+    let two = start.elapsed().as_micros();
+    println!("{all:x}");
+    println!("microseconds for a million: learn {one} next_hop {two}");
+}
