@@ -16,7 +16,8 @@ use Rattle.scenario_reader.specs.Rules.{KeepsRules, AreActions, IsWhat}
 use Rattle.scenario_reader.specs.Tallies.{tallied, tally_of}
 use Rattle.pastry.specs.Solo.{SoloPlay, StandsFor, alone}
 use Rattle.pastry.specs.Schedule.{turn_of, turns_of, setting_of, play_of}
-use Rattle.scenario_reader.specs.FirstPath.{IsFirstPath, AreLookupsAndSettles, IsLookupOrSettle}
+use Rattle.pastry.specs.FirstPath.{is_first_path, AreLookupsAndSettles, IsLookupOrSettle}
+use Rattle.pastry.proofs.Paths.{one_node-from_path, AreLookupsAndSettles-from_path}
 use Rattle.scenario_reader.specs.declared.node.NodeLine.{NodeLine}
 use Rattle.pastry.specs.Turns.{IsNext, sent_after}
 
@@ -31,8 +32,11 @@ one_node (x ∷ []) founder h (zero, lt, e) = ap (λ id. id ∷ []) e
 one_node (x ∷ []) founder h (suc k, lt, e) = absurd (omega arith)
 one_node (x ∷ (y ∷ ys)) founder h c = absurd (omega arith)
 
-pub is_lone : (s : PlainScenario) → KeepsRules s → IsFirstPath s → IsLone s
-is_lone s rules path = record { node = one_node s.nodes s.founder path.one_node rules.founder; actions = path.actions }
+pub is_lone : (s : PlainScenario) → KeepsRules s → is_first_path s ≡ true → IsLone s
+is_lone s rules path = record {
+  node = one_node s.nodes s.founder (one_node-from_path s path) rules.founder;
+  actions = AreLookupsAndSettles-from_path s path;
+}
 
 -- these actions are left, from the play that the founder now stands for
 pub record Acting (s : PlainScenario) (p : SoloPlay) (rest : List Action) : Type 0 where

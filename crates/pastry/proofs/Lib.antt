@@ -1,6 +1,7 @@
 pub mod SoloSteps
 pub mod SoloWorlds
 pub mod Settling
+pub mod Paths
 pub mod Acting
 pub mod Reading
 pub mod CommandLine

@@ -1,4 +1,5 @@
 pub mod Solo
 pub mod Schedule
 pub mod Turns
+pub mod FirstPath
 pub mod Top

@@ -1,5 +1,5 @@
 -- What the program answers: the words it takes, what was read, played and written, and the status of each fault.
-use Rattle.std.specs.Prelude.{◌≡◌, ◌≢◌, ◌≤◌, ◌⊎◌, ℕ, List, [], ◌∷◌, ◌++◌, take, drop, length, Option, Some, None, Ok, Err, codes}
+use Rattle.std.specs.Prelude.{◌≡◌, ◌≢◌, ◌≤◌, ◌⊎◌, ℕ, false, List, [], ◌∷◌, ◌++◌, take, drop, length, Option, Some, None, Ok, Err, codes}
 use Rattle.overlay_rules.specs.declared.entry.Record.{Record}
 use Rattle.overlay_rules.specs.Rightly.{LookupsAreRight}
 use Rattle.outside.specs.Told.{Told}
@@ -10,6 +10,7 @@ use Rattle.scenario_reader.specs.Plain.{PlainScenario}
 use Rattle.scenario_reader.specs.Tallies.{tally_of}
 use Rattle.delivery_report.specs.Report.{report_of}
 use Rattle.pastry.specs.Schedule.{play_of, setting_of}
+use Rattle.pastry.specs.FirstPath.{is_first_path}
 use Rattle.pastry.specs.declared.outcome.TopFault.{TopFault}
 use Rattle.pastry.specs.declared.outcome.TopFault.TheVariants as fault
 
@@ -24,6 +25,7 @@ status_of (Some (fault.Scenario f)) = 3
 status_of (Some fault.Read) = 4
 status_of (Some fault.Write) = 5
 status_of (Some fault.OutOfMemory) = 6
+status_of (Some fault.NotPlayed) = 7
 
 -- these bytes were read of what a source had left: all of it, but no more than 90,010,001
 pub record WasRead (before after : Option (List ℕ)) (bytes : List ℕ) : Type 0 where
@@ -46,6 +48,12 @@ pub record IsScenario (before after : Option (List ℕ)) (s : PlainScenario) : T
   pub bytes : List ℕ
   pub read : WasReadToEnd before after bytes
   pub is : scenario_of bytes ≡ Ok s
+
+-- what was read is a scenario, and not one that is played for now
+pub record IsBeyond (before after : Option (List ℕ)) : Type 0 where
+  pub scenario : PlainScenario
+  pub read : IsScenario before after scenario
+  pub beyond : is_first_path scenario ≡ false
 
 -- this record is the played record of the scenario; every delivery in it is right, and every answer to a lookup
 pub record IsPlayed (s : PlainScenario) (r : Record) : Type 0 where
@@ -79,6 +87,7 @@ pub record Prepares (s : PlainScenario) (r : Record) (text : List ℕ) : Type 0 
 abbrev pub IsReadingFault : TopFault → Type 0
 IsReadingFault fault.Usage = ⊥
 IsReadingFault fault.Write = ⊥
+IsReadingFault fault.NotPlayed = ⊥
 IsReadingFault (fault.Scenario f) = Unit {0}
 IsReadingFault fault.Read = Unit {0}
 IsReadingFault fault.OutOfMemory = Unit {0}

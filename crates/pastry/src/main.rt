@@ -1,6 +1,7 @@
 //! pastry: plays scenarios of a Pastry overlay, and prints what came of them.
 #![tactic(auto)]
 
+mod first_path;
 mod message;
 mod outcome;
 mod play;

@@ -20,11 +20,11 @@ impl fmt::Display for Explained<'_> {
             }
             LineFault::Word { line, place } => write!(
                 f,
-                "line {line}, column {place}: expected node (once), first, lookup or settle"
+                "line {line}, column {place}: expected node, file, first, join, lookup, insert, fetch, reclaim, giveup, settle, deliver, shuffle, dup or noise"
             ),
             LineFault::Count { line, found } => write!(
                 f,
-                "line {line}: the number of words is {found}; expected node NAME ID, first NAME, lookup NAME KEY or settle N"
+                "line {line}: the number of words is {found}; a line of this kind has another (docs/SCENARIOS.md)"
             ),
             LineFault::Number { line, place } => write!(
                 f,
@@ -33,7 +33,7 @@ impl fmt::Display for Explained<'_> {
             LineFault::Hex { line, place } => {
                 write!(
                     f,
-                    "line {line}, column {place}: expected 32 hexadecimal digits"
+                    "line {line}, column {place}: expected pairs of hexadecimal digits: 32 digits of an identifier or a key, 16 of a salt"
                 )
             }
             LineFault::Name { line, place } => write!(
@@ -58,7 +58,7 @@ impl fmt::Display for Explained<'_> {
             }
             LineFault::Limit { line, place } => write!(
                 f,
-                "line {line}, column {place}: past a limit: 10,000 lines, 256 nodes, 1,000,000 deliveries"
+                "line {line}, column {place}: past a limit: 10,000 lines, 256 nodes, 256 files, 64 bytes of a file's name and of its owner, 4,096 bytes of a file, 1 to 9 copies, dup 1 to 4, 1,000,000 deliveries"
             ),
             LineFault::Frame { line, place } => {
                 write!(
@@ -82,6 +82,10 @@ impl fmt::Display for TopFault {
             TopFault::Read => write!(f, "the input could not be read"),
             TopFault::Write => write!(f, "the output could not be written"),
             TopFault::OutOfMemory => write!(f, "out of memory"),
+            TopFault::NotPlayed => write!(
+                f,
+                "this scenario is not played yet: only one node, lookups and settles are"
+            ),
         }
     }
 }

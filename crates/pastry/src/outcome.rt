@@ -19,6 +19,8 @@ pub enum TopFault {
     Write,
     /// Memory was refused. It may come in the place of any other answer but Usage.
     OutOfMemory,
+    /// The scenario has more than one node, or actions other than lookups and settles. Such scenarios are not played yet.
+    NotPlayed,
 }
 
 /// What a run came to.
@@ -42,6 +44,7 @@ impl TopFault {
             TopFault::Read => 4,
             TopFault::Write => 5,
             TopFault::OutOfMemory => 6,
+            TopFault::NotPlayed => 7,
         }
     }
 }

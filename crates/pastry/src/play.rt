@@ -1,6 +1,6 @@
 //! The play of a scenario that one founder plays alone.
 
-ghost use Rattle.std.specs.Prelude.{◌≡◌, ◌+◌, ◌≤◌, OnOk, IfOk};
+ghost use Rattle.std.specs.Prelude.{◌≡◌, ◌+◌, ◌≤◌, true, OnOk, IfOk};
 ghost use Rattle.overlay_rules.specs.Played.{Play, acted};
 ghost use Rattle.overlay_rules.specs.Record.{run, world_at_start};
 ghost use Rattle.overlay_rules.specs.Rightly.{LookupsAreRight};
@@ -8,7 +8,7 @@ ghost use Rattle.delivery_report.specs.Report.{ready_count};
 ghost use Rattle.scenario_reader.specs.Rules.{KeepsRules};
 ghost use Rattle.pastry.specs.Solo.{StandsFor};
 ghost use Rattle.pastry.specs.Schedule.{turn_of, play_of, setting_of};
-ghost use Rattle.scenario_reader.specs.FirstPath.{IsFirstPath, IsLookupOrSettle};
+ghost use Rattle.pastry.specs.FirstPath.{is_first_path, IsLookupOrSettle};
 ghost use Rattle.pastry.specs.Turns.{IsNext, sent_after};
 
 use crate::solo::Solo;
@@ -42,7 +42,7 @@ fn act(solo: &mut Solo, alloc: Global, what: &What) -> Result<(), OutOfMemory>
 
 /// Plays a scenario of lookups and settles that its founder plays alone.
 pub fn play_alone(alloc: Global, scenario: &Scenario) -> Result<Record, OutOfMemory>
-    requires { IsFirstPath scenario.now }
+    requires { is_first_path scenario.now ≡ true }
     ensures entries { IfOk result (λ r. r.entries ≡ (play_of scenario.now).world.past) }
     ensures skipped { IfOk result (λ r. r.skipped ≡ (play_of scenario.now).skipped) }
     ensures right { IfOk result (λ r. LookupsAreRight (setting_of scenario.now) r.entries) }

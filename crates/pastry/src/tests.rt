@@ -31,7 +31,7 @@ fn play_words(alloc: Global) -> Result<Vec<RcStr>, AllocError> {
     Ok(words)
 }
 
-/// Plays the least run over these devices.
+/// Plays what the source has over these devices.
 fn played_over<R: Threads + Wait + Sync>(
     rt: &R,
     alloc: Global,
@@ -108,5 +108,22 @@ fn a_sink_may_fail_at_any_call(rt: HostRuntime) -> Result<(), AllocError> {
     let ended = into_sink(&rt, rt.alloc(), 16, 2)?;
     assert_eq!(rt; ended.status, 5);
     assert_eq!(rt; ended.taken.as_slice(), b"1 delivered by A".as_slice());
+    Ok(())
+}
+
+/// Scenarios beyond those that are played are read, and nothing is written of them.
+#[test]
+fn says_what_is_not_played(rt: HostRuntime) -> Result<(), AllocError> {
+    let beyond: [&[u8]; 2] = [
+        b"node A 10000000000000000000000000000000\nnode B -\nfirst A\n",
+        b"node A 10000000000000000000000000000000\nfirst A\ngiveup A\n",
+    ];
+    for input in beyond {
+        let mut source = MemorySource::new(rt.alloc(), input, 1000, &[]).map_err(refused)?;
+        let mut sink = MemorySink::new(rt.alloc(), 1000, 1000, &[]).map_err(refused)?;
+        let ended = played_over(&rt, rt.alloc(), &mut source, &mut sink)?;
+        assert_eq!(rt; ended.status, 7);
+        assert!(rt; ended.taken.is_empty());
+    }
     Ok(())
 }

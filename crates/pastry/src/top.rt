@@ -1,17 +1,18 @@
 //! One run of the program: what is read, played and written.
 
-ghost use Rattle.std.specs.Prelude.{◌≡◌, ◌≢◌, ◌≤◌, ◌↔◌, ◌⊎◌, ◌∷◌, List, ℕ, map, take, Ok, Err, Some, None, IfOk, IfErr, IsSome, IsNone};
+ghost use Rattle.std.specs.Prelude.{◌≡◌, ◌≢◌, ◌≤◌, ◌↔◌, ◌⊎◌, ◌∷◌, true, List, ℕ, map, take, Ok, Err, Some, None, IfOk, IfErr, IsSome, IsNone};
 ghost use Rattle.std.specs.Rc.{rc_str_bytes};
 ghost use Rattle.outside.specs.Rose.{Rose};
 ghost use Rattle.outside.specs.Sink.{BreaksOff};
 ghost use Rattle.outside.specs.Told.{Told};
 ghost use Rattle.scenario_reader.specs.Grammar.{scenario_of};
 ghost use Rattle.scenario_reader.specs.Plain.{PlainScenario};
-ghost use Rattle.scenario_reader.specs.FirstPath.{IsFirstPath};
 ghost use Rattle.scenario_reader.specs.Tallies.{tally_of};
 ghost use Rattle.scenario_reader.specs.declared.fault.LineFault.{LineFault as Fault};
-ghost use Rattle.pastry.specs.Top.{ArePlay, status_of, IsRefused, IsScenario, IsPlayed, HasPlayed, Appends, IsReadingFault, Prepares, DoneOr};
+ghost use Rattle.pastry.specs.FirstPath.{is_first_path};
+ghost use Rattle.pastry.specs.Top.{ArePlay, IsBeyond, status_of, IsRefused, IsScenario, IsPlayed, HasPlayed, Appends, IsReadingFault, Prepares, DoneOr};
 
+use crate::first_path::is_first_path;
 use crate::outcome::{Outcome, TopFault};
 use crate::play::play_alone;
 use crate::words::are_play;
@@ -32,7 +33,6 @@ const INPUT_LIMIT: usize = 90_010_001;
 /// Reads a scenario from a source.
 fn read_input<S: Source>(alloc: Global, source: &mut S) -> Result<Scenario, TopFault>
     ensures ok { IfOk result (λ s. IsScenario (S.left source.old) (S.left source.new) s) }
-    ensures first_path { IfOk result (λ s. IsFirstPath s) }
     ensures kind { IfErr result IsReadingFault }
     ensures refused { (f : Fault) → result ≡ Err (TopFault.Scenario f) → IsRefused (S.left source.old) (S.left source.new) f }
     ensures unread { result ≡ Err TopFault.Read → Rose (S.faults source.old) (S.faults source.new) }
@@ -72,7 +72,7 @@ fn command_count(scenario: &Scenario) -> u64
 
 /// Plays a scenario and writes its report into memory.
 fn prepare(alloc: Global, scenario: &Scenario) -> Result<Prepared, OutOfMemory>
-    requires { IsFirstPath scenario.now }
+    requires { is_first_path scenario.now ≡ true }
     ensures { IfOk result (λ p. Prepares scenario.now p.record p.report) }
 {
     let record = play_alone(alloc, scenario)?;
@@ -112,6 +112,7 @@ fn play_mode<S: Source, K: Sink>(alloc: Global, source: &mut S, sink: &mut K) ->
     ensures done { result.fault ≡ None → HasPlayed (S.left source.old) (S.left source.new) (K.taken sink.old) (K.taken sink.new) Appends result.played }
     ensures broken_off { result.fault ≡ Some TopFault.Write → HasPlayed (S.left source.old) (S.left source.new) (K.taken sink.old) (K.taken sink.new) BreaksOff result.played }
     ensures refused { (f : Fault) → result.fault ≡ Some (TopFault.Scenario f) → IsRefused (S.left source.old) (S.left source.new) f }
+    ensures beyond { result.fault ≡ Some TopFault.NotPlayed → IsBeyond (S.left source.old) (S.left source.new) }
     ensures unread { result.fault ≡ Some TopFault.Read → Rose (S.faults source.old) (S.faults source.new) }
     ensures unwritten { result.fault ≡ Some TopFault.Write → Rose (K.faults sink.old) (K.faults sink.new) }
     ensures nothing_written { IsNone result.played → sink.new ≡ sink.old }
@@ -123,6 +124,9 @@ fn play_mode<S: Source, K: Sink>(alloc: Global, source: &mut S, sink: &mut K) ->
         Ok(scenario) => scenario,
         Err(fault) => return Outcome::refused(fault),
     };
+    if !is_first_path(&scenario) {
+        return Outcome::refused(TopFault::NotPlayed);
+    }
     match prepare(alloc, &scenario) {
         Ok(prepared) => write_report(sink, prepared),
         Err(OutOfMemory) => Outcome::refused(TopFault::OutOfMemory),
@@ -153,19 +157,21 @@ pub fn top<R: Threads + Wait + Sync, S: Source, K: Sink, T: Turnstile + Sync>(
 
     // Each other fault has its cause. Want of memory alone is free.
     ensures refused { (f : Fault) → result.fault ≡ Some (TopFault.Scenario f) → IsRefused (S.left source.old) (S.left source.new) f }
+    ensures beyond { result.fault ≡ Some TopFault.NotPlayed → IsBeyond (S.left source.old) (S.left source.new) }
     ensures unread { result.fault ≡ Some TopFault.Read → Rose (S.faults source.old) (S.faults source.new) }
     ensures unwritten { result.fault ≡ Some TopFault.Write → Rose (K.faults sink.old) (K.faults sink.new) }
     ensures source_count { S.faults source.old ≤ S.faults source.new }
     ensures sink_count { K.faults sink.old ≤ K.faults sink.new }
 
-    // Where nothing stands against it, a scenario is played, and what is none is refused for its fault.
+    // Where nothing stands against it, a scenario of lookups and settles at one node is played, and what is no scenario is
+    // refused for its fault.
     ensures complete { ArePlay (map rc_str_bytes words.now) → ¬ Rose (S.faults source.old) (S.faults source.new) → ¬ Rose (K.faults sink.old) (K.faults sink.new) →
-        (xs : List ℕ) (s : PlainScenario) → S.left source.old ≡ Some xs → scenario_of xs ≡ Ok s → DoneOr result.fault None }
+        (xs : List ℕ) (s : PlainScenario) → S.left source.old ≡ Some xs → scenario_of xs ≡ Ok s → is_first_path s ≡ true → DoneOr result.fault None }
     ensures refuses { ArePlay (map rc_str_bytes words.now) → ¬ Rose (S.faults source.old) (S.faults source.new) → ¬ Rose (K.faults sink.old) (K.faults sink.new) →
         (xs : List ℕ) (f : Fault) → S.left source.old ≡ Some xs → scenario_of (take 90010001 xs) ≡ Err f → DoneOr result.fault (Some (TopFault.Scenario f)) }
     // Devices whose counts stand at 0 do not fail.
     ensures steady { ((t : S) → S.faults t ≡ 0) → ((k : K) → K.faults k ≡ 0) → ArePlay (map rc_str_bytes words.now) →
-        (xs : List ℕ) (s : PlainScenario) → S.left source.old ≡ Some xs → scenario_of xs ≡ Ok s → DoneOr result.fault None }
+        (xs : List ℕ) (s : PlainScenario) → S.left source.old ≡ Some xs → scenario_of xs ≡ Ok s → is_first_path s ≡ true → DoneOr result.fault None }
 {
     let _ = rt;
     let _ = turnstile;

@@ -77,7 +77,7 @@ IsWhat-node nodes node files tally (what.Settle n) is = is
 IsWhat-node nodes node files tally (what.Deliver n) is = is
 IsWhat-node nodes node files tally (what.Shuffle seed count) is = is
 IsWhat-node nodes node files tally (what.Dup n) is = is
-IsWhat-node nodes node files tally (what.Noise at bytes) is = Contains-ids-more nodes node at is
+IsWhat-node nodes node files tally (what.Noise at bytes) is = (Contains-ids-more nodes node at is.0, is.1)
 
 IsWhat-file : (nodes : List NodeLine) (files : List FileLine) (line : FileLine) (tally : Tally) (w : What) → IsWhat nodes files tally w → IsWhat nodes (files ++ line ∷ []) tally w
 IsWhat-file nodes files line tally (what.Command number at c) is = (is.0, is.1, IsCommand-file nodes files line c is.2)

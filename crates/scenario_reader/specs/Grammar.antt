@@ -6,7 +6,8 @@ use Rattle.scenario_reader.specs.declared.form.Form.{Form}
 use Rattle.scenario_reader.specs.Plain.{PlainScenario, Draft, nothing_yet, with_founder}
 use Rattle.scenario_reader.specs.Lines.{lines_of}
 use Rattle.scenario_reader.specs.Words.{Word, words_of}
-use Rattle.scenario_reader.specs.Checks.{too_long, not_text, form_in, wrong_count, no_number, no_hex, no_name, twice, no_founder, second_founder, over_limit}
+use Rattle.scenario_reader.specs.Checks.{too_long, not_text, wrong_count, no_number, no_hex, no_name, twice, no_founder, second_founder, over_limit, frame}
+use Rattle.scenario_reader.specs.Forms.{form_of}
 use Rattle.scenario_reader.specs.Effects.{after_form}
 
 -- the first fault counts, in the order of the checks
@@ -31,11 +32,12 @@ form_fault draft n form words =
     before no_founder draft n form
     before second_founder draft n form
     before over_limit draft n form words
+    before frame n form words
 
 abbrev pub read_form : Draft → ℕ → Form → List Word → Result Draft LineFault
 read_form draft n form words = unless (form_fault draft n form words) (Ok (after_form draft n form words))
 
--- a line of a form, or one whose first word, at this place, is none's
+-- a line of a form, or (check 3) one whose first word, at this place, is none of the table's
 abbrev pub read_known : Draft → ℕ → ℕ → Option Form → List Word → Result Draft LineFault
 read_known draft n place None words = Err (fault.Word n place)
 read_known draft n place (Some form) words = read_form draft n form words
@@ -49,7 +51,7 @@ is_comment (byte ∷ bytes) = byte == 35
 abbrev pub read_words : Draft → ℕ → List Word → Result Draft LineFault
 read_words draft n [] = Ok draft
 read_words draft n (first ∷ words) =
-    if is_comment first.text then Ok draft else read_known draft n first.place (form_in draft first.text) words
+    if is_comment first.text then Ok draft else read_known draft n first.place (form_of first.text) words
 
 -- what line n makes of a draft, or its fault
 abbrev pub read_line : Draft → ℕ → List ℕ → Result Draft LineFault

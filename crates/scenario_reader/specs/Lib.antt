@@ -1,12 +1,13 @@
 pub mod Plain
+pub mod Marks
 pub mod Tallies
 pub mod Rules
 pub mod Spelling
 pub mod Lines
 pub mod Words
 pub mod Forms
+pub mod Meanings
 pub mod Checks
 pub mod Effects
-pub mod FirstPath
 pub mod Grammar
 pub mod Outcome

@@ -37,6 +37,9 @@ node_names nodes = map (λ (node : NodeLine). node.name) nodes
 abbrev pub file_names : List FileLine → List (List ℕ)
 file_names files = map (λ (file : FileLine). file.name) files
 
--- the node that was declared under a name
+-- the node, and the file, that was declared under a name
 abbrev pub node_named : List NodeLine → List ℕ → Option NodeLine
 node_named nodes name = find (λ (node : NodeLine). bytes_eq node.name name) nodes
+
+abbrev pub file_named : List FileLine → List ℕ → Option FileLine
+file_named files name = find (λ (file : FileLine). bytes_eq file.name name) files

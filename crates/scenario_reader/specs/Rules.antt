@@ -1,5 +1,6 @@
 -- What every scenario keeps, and what may be added to a draft of one.
 use Rattle.std.specs.Prelude.{◌≡◌, ◌≢◌, ℕ, ◌+◌, ◌^◌, ◌<◌, ◌≤◌, List, [], ◌∷◌, length, All, AllPairs, Any, Contains, IfSome, IsNone, IsSome, IsTrue}
+use Rattle.wire_codec.specs.Reading.{refusal}
 use Rattle.wire_msg.specs.declared.command.Command.{Command}
 use Rattle.wire_msg.specs.declared.command.Command.TheVariants as command
 use Rattle.scenario_reader.specs.declared.node.NodeLine.{NodeLine}
@@ -40,7 +41,8 @@ IsCommand nodes files (command.Fetch file) = IsFile files file
 IsCommand nodes files command.GiveUp = Unit {0}
 IsCommand nodes files (command.Reclaim file) = IsFile files file
 
--- a command is at a declared node and has the next number; a settle, a shuffle and a dup are within their limits
+-- A command is at a declared node and has the next number. A settle, a shuffle and a dup are within their limits. A noise is
+-- at a declared node and is no frame.
 abbrev pub IsWhat : List NodeLine → List FileLine → Tally → What → Type 0
 IsWhat nodes files tally (what.Command number node command) =
     (number ≡ tally.commands + 1) × Contains (ids nodes) node × IsCommand nodes files command
@@ -48,7 +50,7 @@ IsWhat nodes files tally (what.Settle n) = n ≤ 1000000
 IsWhat nodes files tally (what.Deliver n) = n < 2 ^ 64
 IsWhat nodes files tally (what.Shuffle seed count) = (seed < 2 ^ 64) × (count ≤ 1000000)
 IsWhat nodes files tally (what.Dup n) = (1 ≤ n) × (n ≤ 4)
-IsWhat nodes files tally (what.Noise node bytes) = Contains (ids nodes) node
+IsWhat nodes files tally (what.Noise node bytes) = Contains (ids nodes) node × IsSome (refusal bytes)
 
 -- An action may follow actions of this tally: the deliveries of all come to at most 1,000,000.
 pub record MayFollow (nodes : List NodeLine) (files : List FileLine) (tally : Tally) (what : What) : Type 0 where

@@ -1,13 +1,18 @@
 //! The scenario language: which bytes are which scenario, and for all other bytes the one fault with its line and place.
 #![tactic(auto)]
 
+mod act;
 mod action;
 mod builder;
+mod command;
+mod declare;
 mod fault;
 mod form;
 mod lines;
 mod name;
+mod named;
 mod node;
+mod operands;
 mod read;
 mod scenario;
 mod spelling;

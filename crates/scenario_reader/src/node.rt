@@ -1,6 +1,7 @@
 //! What a scenario declares.
 
 use crate::name::Name;
+use crate::named::Named;
 use ring_math::{Bytes, FileId, Id};
 
 /// A node that a scenario declares.
@@ -18,4 +19,20 @@ pub struct FileLine {
     pub file: FileId,
     pub bytes: Bytes,
     pub line: u32,
+}
+
+impl Named for NodeLine {
+    ghost name_of = { λ node. node.name };
+
+    fn name(&self) -> &[u8] {
+        self.name.as_slice()
+    }
+}
+
+impl Named for FileLine {
+    ghost name_of = { λ file. file.name };
+
+    fn name(&self) -> &[u8] {
+        self.name.as_slice()
+    }
 }

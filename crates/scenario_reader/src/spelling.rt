@@ -1,9 +1,9 @@
-//! How names and numbers are spelled.
+//! How names, numbers and identifiers are spelled.
 
-ghost use Rattle.std.specs.Prelude.{◌≡◌, ◌+◌, ◌*◌, ◌^◌, ◌<◌, IsTrue, SomeIff};
+ghost use Rattle.std.specs.Prelude.{◌≡◌, ◌+◌, ◌*◌, ◌^◌, ◌<◌, IsTrue, SomeIff, option_map};
 ghost use Rattle.std.specs.Char.{digit_value, is_ascii_digit};
 ghost use Rattle.std.specs.List.{list_all};
-ghost use Rattle.scenario_reader.specs.Spelling.{is_name_byte, is_name, is_decimal, number_of};
+ghost use Rattle.scenario_reader.specs.Spelling.{is_name_byte, is_name, is_decimal, number_of, is_dash, behind_at};
 
 /// Whether these bytes are 1 to 32 letters, digits or underscores.
 pub(crate) fn is_name(text: &[u8]) -> bool
@@ -62,4 +62,21 @@ fn are_digits(text: &[u8]) -> bool
     ensures { result ≡ list_all is_ascii_digit text.now }
 {
     text.iter().all(|byte| byte.is_ascii_digit())
+}
+
+/// Whether a word is `-`, which spells no bytes and, for a node, the identifier of its name.
+pub(crate) fn is_dash(text: &[u8]) -> bool
+    ensures { result ≡ is_dash text.now }
+{
+    text == b"-".as_slice()
+}
+
+/// The name behind the `@` of `@FILE`.
+pub(crate) fn behind_at(text: &[u8]) -> Option<&[u8]>
+    ensures { option_map (λ name. name.now) result ≡ behind_at text.now }
+{
+    match text {
+        [b'@', name @ ..] => Some(name),
+        _ => None,
+    }
 }

@@ -1,7 +1,8 @@
 //! The words of a line.
 
-ghost use Rattle.std.specs.Prelude.{◌≡◌, ◌+◌, ◌≤◌, ◌++◌, [], length, map, vec_len, IfOk, OnOk};
-ghost use Rattle.scenario_reader.specs.Words.{plain_word, with_piece, words_of};
+ghost use Rattle.std.specs.Prelude.{◌≡◌, ℕ, ◌+◌, ◌<◌, ◌≤◌, ◌∷◌, true, false, [], get_or, length, map, vec_len, IfNone, IfOk, IfSome};
+ghost use Rattle.std.specs.List.{prefix_len, slice_split};
+ghost use Rattle.scenario_reader.specs.Words.{is_space, plain_word, words_from, words_of};
 
 use memchr::memchr;
 use ring_math::OutOfMemory;
@@ -18,27 +19,49 @@ pub(crate) struct Word<'a> {
 pub(crate) fn words_in<'a>(alloc: Global, line: &'a [u8]) -> Result<Vec<Word<'a>>, OutOfMemory>
     requires { length line.now ≤ 9000 }
     ensures words { IfOk result (λ words. map plain_word words.items ≡ words_of line.now) }
-    ensures few { IfOk result (λ words. vec_len words ≤ 9001) }
+    ensures few { IfOk result (λ words. vec_len words ≤ 9000) }
 {
     let mut words = Vec::new(alloc);
     let mut place: u32 = 0;
     let mut rest = line;
-    while let Some(len) = memchr(b' ', rest) {
-        push_piece(&mut words, place, &rest[..len])?;
-        place += len as u32 + 1;
-        rest = &rest[len + 1..];
+    while let Some((spaces, text, behind)) = next_word(rest) {
+        place += spaces as u32;
+        words.push(Word { place, text })?;
+        place += text.len() as u32;
+        rest = behind;
     }
-    push_piece(&mut words, place, rest)?;
     Ok(words)
 }
 
-/// Adds what stands between two spaces, unless it is empty.
-fn push_piece<'a>(words: &mut Vec<Word<'a>>, place: u32, text: &'a [u8]) -> Result<(), OutOfMemory>
-    ensures words { OnOk result (map plain_word words.new.items ≡ map plain_word words.old.items ++ with_piece place text.now []) }
-    ensures few { OnOk result (vec_len words.new ≤ vec_len words.old + 1) }
+/// The first word of a text, how many spaces stand before it, and what stands behind it.
+fn next_word(text: &[u8]) -> Option<(usize, &[u8], &[u8])>
+    ensures none { IfNone result ((place : ℕ) → words_from place (slice_split is_space text.now) ≡ []) }
+    ensures some { IfSome result (λ found. (place : ℕ) → words_from place (slice_split is_space text.now) ≡ record { place = place + found.0; text = found.1.now } ∷ words_from (place + found.0 + length found.1.now) (slice_split is_space found.2.now)) }
+    ensures sizes { IfSome result (λ found. (0 < length found.1.now) × (found.0 + length found.1.now + length found.2.now ≡ length text.now)) }
 {
-    if !text.is_empty() {
-        words.push(Word { place, text })?;
+    let spaces = leading_spaces(text);
+    let within = spaces <= text.len();
+    prove!(within);
+    let from = &text[spaces..];
+    if from.is_empty() {
+        return None;
     }
-    Ok(())
+    let len = word_len(from);
+    Some((spaces, &from[..len], &from[len..]))
+}
+
+/// How many spaces stand at the front.
+fn leading_spaces(text: &[u8]) -> usize
+    ensures { result ≡ prefix_len is_space text.now }
+{
+    text.iter().take_while(|byte| **byte == b' ').count()
+}
+
+/// How many bytes stand before the first space.
+fn word_len(text: &[u8]) -> usize
+    ensures within { result ≤ length text.now }
+    ensures before { (k : ℕ) → k < result → is_space (get_or text.now k 0) ≡ false }
+    ensures ends { result < length text.now → is_space (get_or text.now result 0) ≡ true }
+{
+    memchr(b' ', text).unwrap_or(text.len())
 }

@@ -5,12 +5,12 @@ use Rattle.scenario_reader.specs.Words.{plain_word}
 use Rattle.scenario_reader.proofs.words.words_in.Given as goal
 
 -- the words so far, and those of the rest, are the words of the line
-abbrev pub invariant-loop-len : goal.invariant-loop-len
-invariant-loop-len l = record {
+abbrev pub invariant-loop-spaces : goal.invariant-loop-spaces
+invariant-loop-spaces l = record {
   read : map plain_word l.words.items ++ words_from l.place (slice_split is_space l.rest) ≡ words_of l.line;
   within : l.place + length l.rest ≡ length l.line;
   few : vec_len l.words ≤ l.place;
 }
 
-abbrev pub decreases-loop-len : goal.decreases-loop-len
-decreases-loop-len l = length l.rest
+abbrev pub decreases-loop-spaces : goal.decreases-loop-spaces
+decreases-loop-spaces l = length l.rest

@@ -20,4 +20,6 @@ invariant_of-self-2 c =
     rw c.in_ok-push.ensures.items (
       DraftKeepsRules-action draft c.args.action c.self.invariant.0 may,
       counted ∙ sym (tally_of-more fields.actions.items c.args.action),
+      c.self.invariant.2,
+      c.self.invariant.3,
     )
