@@ -1,0 +1,9 @@
+pub mod Simple
+pub mod Numbers
+pub mod Rows
+pub mod Steps
+pub mod Numerals
+pub mod Walking
+pub mod Finishing
+pub mod PlainWords
+pub mod Answered

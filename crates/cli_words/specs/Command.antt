@@ -1,0 +1,76 @@
+-- The command, as `clap` has it, and what a reading of it answers.
+use Rattle.std.specs.Prelude.{◌≡◌, ◌≢◌, ℕ, List, [], ◌∷◌, map, codes, Option, Some, None, Result, Err, IfOk, true, pos, if◌then◌else◌}
+use Rattle.std.specs.Option.{option_map_or}
+use Rattle.std.specs.Str.{bytes_eq}
+use Rattle.std.specs.Str.Parse.{digits_value, without_leading_plus}
+use Rattle.std.specs.Borrow.{Bor}
+use Rattle.clap.specs.Walk.{Row, Rule, Text, first_of, one_of}
+use Rattle.clap.specs.Faults.{fault_of}
+use Rattle.clap.specs.ValueTests.{is_unsigned_in}
+use Rattle.clap.specs.Simple.{App, app_of, matches_of, new_app, new_rule, with_rule}
+use Rattle.clap.specs.declared.builder.command.Command.{Command}
+use Rattle.clap.specs.declared.builder.action.ArgAction.TheVariants.{Set}
+use Rattle.clap.specs.declared.builder.value_parser.ValueParser.{ValueParser}
+use Rattle.clap.specs.declared.builder.value_parser.ValueParser.TheVariants as vp
+use Rattle.cli_words.specs.declared.mode.Mode.{Mode}
+use Rattle.cli_words.specs.declared.mode.Mode.TheVariants.{Play, Big}
+use Rattle.cli_words.specs.declared.mode.WordFault.{WordFault}
+use Rattle.cli_words.specs.declared.mode.WordFault.TheVariants.{Usage}
+
+-- the texts of MODE, wherever they are kept
+abbrev pub AreModes : Bor (List (Bor Text)) → Type 0
+AreModes names = map (λ (s : Bor Text). s.now) names.now ≡ codes "play" ∷ codes "big" ∷ []
+
+abbrev pub mode_rule : Bor (List (Bor Text)) → Rule
+mode_rule names = record (new_rule (codes "mode")) { action = Some Set; parser = Some (vp.Names names); required = true }
+
+-- an option of one value
+abbrev pub option_rule : Text → ValueParser → Text → Rule
+option_rule name parser otherwise =
+    record (new_rule name) { long = Some name; action = Some Set; parser = Some parser; defaults = otherwise ∷ [] }
+
+abbrev pub nodes_rule : Rule
+nodes_rule = option_rule (codes "nodes") (vp.Signed (pos 2) (pos 256)) (codes "12")
+
+abbrev pub seed_rule : Rule
+seed_rule = option_rule (codes "seed") (vp.Unsigned 0 18446744073709551615) (codes "7")
+
+abbrev pub room_rule : Rule
+room_rule = option_rule (codes "room") (vp.Signed (pos 1) (pos 4096)) (codes "16")
+
+abbrev pub size_rule : Rule
+size_rule = option_rule (codes "size") (vp.Signed (pos 0) (pos 835584)) (codes "10000")
+
+abbrev pub without_help : App → App
+without_help a = record a { top = record a.top { disable_help_flag = true; disable_version_flag = true } }
+
+-- one required MODE and the four options, and neither help nor version
+abbrev pub command_of : Bor (List (Bor Text)) → App
+command_of names =
+    with_rule (with_rule (with_rule (with_rule (with_rule (without_help (new_app (codes "pastry"))) (mode_rule names)) nodes_rule) seed_rule) room_rule) size_rule
+
+abbrev pub IsCommand : Command → Type 0
+IsCommand c = (names : Bor (List (Bor Text))) × AreModes names × (app_of c ≡ command_of names)
+
+-- the number that a text spells, or another where it spells none that fits
+abbrev pub number_in : ℕ → ℕ → Text → ℕ
+number_in most otherwise t = if is_unsigned_in 0 most t then digits_value 10 (without_leading_plus t) else otherwise
+
+-- the number that the first value of an entry spells
+abbrev pub number_of : Text → ℕ → ℕ → List Row → ℕ
+number_of id most otherwise rows = option_map_or (number_in most otherwise) (one_of id rows) otherwise
+
+-- `big` with these numbers, or `play`
+abbrev pub mode_named : Option Text → ℕ → ℕ → Mode
+mode_named None nodes seed = Play
+mode_named (Some t) nodes seed = if bytes_eq t (codes "big") then Big nodes seed else Play
+
+-- the mode of what a reading found
+abbrev pub mode_of : List Row → Mode
+mode_of rows =
+    mode_named (first_of (codes "mode") rows) (number_of (codes "nodes") 4294967295 12 rows) (number_of (codes "seed") 18446744073709551615 7 rows)
+
+-- What a reading answers: Usage exactly where the command's reading is refused for another cause than memory.
+pub record Reads (names : Bor (List (Bor Text))) (words : List Text) (result : Result Mode WordFault) : Type 0 where
+  pub ok : IfOk result (λ m. (fault_of (command_of names) words ≡ []) × (m ≡ mode_of (matches_of (command_of names) words)))
+  pub usage : result ≡ Err Usage → fault_of (command_of names) words ≢ []

@@ -1,0 +1,75 @@
+-- Plain words: any first word, one mode, and each option at most once, before or after it.
+use Rattle.std.specs.Prelude.{◌≡◌, ◌≢◌, ◌⊎◌, ◌≤◌, ◌<◌, ◌^◌, ℕ, List, [], ◌∷◌, ◌++◌, map, codes, decimal, All, AllPairs, IsSome, Option, Some, None, if◌then◌else◌}
+use Rattle.std.specs.List.{flat_map}
+use Rattle.std.specs.Str.{bytes_eq}
+use Rattle.clap.specs.Walk.{Text}
+use Rattle.cli_words.specs.declared.mode.Mode.{Mode}
+use Rattle.cli_words.specs.Command.{mode_named}
+
+-- what an option sets
+pub data Setting : Type 0 where
+  Nodes : Setting
+  Seed : Setting
+  Room : Setting
+  Size : Setting
+
+abbrev pub setting_name : Setting → Text
+setting_name Nodes = codes "nodes"
+setting_name Seed = codes "seed"
+setting_name Room = codes "room"
+setting_name Size = codes "size"
+
+abbrev pub InRange : Setting → ℕ → Type 0
+InRange Nodes n = (2 ≤ n) × (n ≤ 256)
+InRange Seed n = n < 2 ^ 64
+InRange Room n = (1 ≤ n) × (n ≤ 4096)
+InRange Size n = n ≤ 835584
+
+-- the mode, `--nodes N` or `--nodes=N`
+pub data Piece : Type 0 where
+  Names : (mode : Text) → Piece
+  Apart : (setting : Setting) (number : ℕ) → Piece
+  Joined : (setting : Setting) (number : ℕ) → Piece
+
+-- a number has no leading zeros
+abbrev pub words_of : Piece → List Text
+words_of (Names mode) = mode ∷ []
+words_of (Apart setting number) = (codes "--" ++ setting_name setting) ∷ decimal number ∷ []
+words_of (Joined setting number) = (codes "--" ++ (setting_name setting ++ (codes "=" ++ decimal number))) ∷ []
+
+abbrev pub IsPiece : Piece → Type 0
+IsPiece (Names mode) = (mode ≡ codes "play") ⊎ (mode ≡ codes "big")
+IsPiece (Apart setting number) = InRange setting number
+IsPiece (Joined setting number) = InRange setting number
+
+-- what a piece is about
+abbrev pub subject_of : Piece → Text
+subject_of (Names mode) = codes "mode"
+subject_of (Apart setting number) = setting_name setting
+subject_of (Joined setting number) = setting_name setting
+
+abbrev pub mode_said : List Piece → Option Text
+mode_said [] = None
+mode_said (Names mode ∷ pieces) = Some mode
+mode_said (Apart setting number ∷ pieces) = mode_said pieces
+mode_said (Joined setting number ∷ pieces) = mode_said pieces
+
+-- the number that is set, or another
+abbrev pub number_said : Text → ℕ → List Piece → ℕ
+number_said name otherwise [] = otherwise
+number_said name otherwise (Names mode ∷ pieces) = number_said name otherwise pieces
+number_said name otherwise (Apart setting number ∷ pieces) =
+    if bytes_eq (setting_name setting) name then number else number_said name otherwise pieces
+number_said name otherwise (Joined setting number ∷ pieces) =
+    if bytes_eq (setting_name setting) name then number else number_said name otherwise pieces
+
+-- the mode that is named, with its numbers or 12 and 7
+abbrev pub mode_by : List Piece → Mode
+mode_by pieces = mode_named (mode_said pieces) (number_said (codes "nodes") 12 pieces) (number_said (codes "seed") 7 pieces)
+
+pub record ArePlain (pieces : List Piece) (words : List Text) : Type 0 where
+  pub first : Text
+  pub is : words ≡ first ∷ flat_map words_of pieces
+  pub allowed : All IsPiece pieces
+  pub once : AllPairs ◌≢◌ (map subject_of pieces)
+  pub mode : IsSome (mode_said pieces)

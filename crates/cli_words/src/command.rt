@@ -1,0 +1,94 @@
+//! The command line as `clap` is told it.
+
+ghost use Rattle.std.specs.Prelude.{◌≡◌, false, codes, IfOk, IfErr};
+ghost use Rattle.clap.specs.Words.{app_of, rule_of};
+ghost use Rattle.clap.specs.Simple.{new_app};
+ghost use Rattle.cli_words.specs.Command.{IsCommand, AreModes, without_help, mode_rule, nodes_rule, seed_rule, room_rule, size_rule};
+
+use crate::mode::WordFault;
+use clap::{Arg, ArgAction, Command, value_parser};
+use std::alloc::Global;
+
+/// The modes that are built.
+static MODES: [&str; 2] = ["play", "big"];
+
+fn mode_arg<'a>(alloc: Global) -> Arg<'a>
+    ensures rule { (names : _) × AreModes names × (rule_of result ≡ mode_rule names) }
+    ensures local { result.global ≡ false }
+{
+    Arg::new(alloc, "mode")
+        .required(true)
+        .action(ArgAction::Set)
+        .value_parser(MODES.as_slice())
+}
+
+/// How many nodes a made scenario has.
+fn nodes_arg<'a>(alloc: Global) -> Arg<'a>
+    ensures rule { rule_of result ≡ nodes_rule }
+    ensures local { result.global ≡ false }
+{
+    Arg::new(alloc, "nodes")
+        .long("nodes")
+        .action(ArgAction::Set)
+        .value_parser(value_parser!(u32).range(2..=256))
+        .default_value("12")
+}
+
+/// The seed of a made scenario.
+fn seed_arg<'a>(alloc: Global) -> Arg<'a>
+    ensures rule { rule_of result ≡ seed_rule }
+    ensures local { result.global ≡ false }
+{
+    Arg::new(alloc, "seed")
+        .long("seed")
+        .action(ArgAction::Set)
+        .value_parser(value_parser!(u64))
+        .default_value("7")
+}
+
+/// How many files an access point keeps. It has no effect in the modes that are built.
+fn room_arg<'a>(alloc: Global) -> Arg<'a>
+    ensures rule { rule_of result ≡ room_rule }
+    ensures local { result.global ≡ false }
+{
+    Arg::new(alloc, "room")
+        .long("room")
+        .action(ArgAction::Set)
+        .value_parser(value_parser!(u32).range(1..=4096))
+        .default_value("16")
+}
+
+/// How many bytes a large file has. It has no effect in the modes that are built.
+fn size_arg<'a>(alloc: Global) -> Arg<'a>
+    ensures rule { rule_of result ≡ size_rule }
+    ensures local { result.global ≡ false }
+{
+    Arg::new(alloc, "size")
+        .long("size")
+        .action(ArgAction::Set)
+        .value_parser(value_parser!(u32).range(0..=835584))
+        .default_value("10000")
+}
+
+/// No argument yet, and neither help nor version.
+fn bare_command<'a>(alloc: Global) -> Command<'a>
+    ensures { app_of result ≡ without_help (new_app (codes "pastry")) }
+{
+    Command::new(alloc, "pastry")
+        .disable_help_flag(true)
+        .disable_version_flag(true)
+}
+
+/// One mode and four options, and neither help nor version.
+pub(crate) fn command<'a>(alloc: Global) -> Result<Command<'a>, WordFault>
+    ensures err { IfErr result (λ e. e ≡ WordFault.OutOfMemory) }
+    ensures ok { IfOk result (λ c. IsCommand c) }
+{
+    let command = bare_command(alloc)
+        .arg(mode_arg(alloc))?
+        .arg(nodes_arg(alloc))?
+        .arg(seed_arg(alloc))?
+        .arg(room_arg(alloc))?
+        .arg(size_arg(alloc))?;
+    Ok(command)
+}

@@ -1,0 +1,12 @@
+//! The words of the command line: what the program is to do.
+#![tactic(auto)]
+
+mod command;
+mod mode;
+mod read;
+
+pub use mode::{Mode, WordFault};
+pub use read::read_words;
+
+#[cfg(test)]
+mod tests;

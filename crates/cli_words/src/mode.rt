@@ -1,0 +1,31 @@
+//! What the words of the command line ask for.
+
+use std::alloc::AllocError;
+
+/// What the program is to do.
+#[derive(Clone, Copy, Debug, PartialEq, Eq)]
+pub enum Mode {
+    /// Plays a scenario and writes its report.
+    Play,
+    /// Plays the scenario that is made of so many nodes, 2 to 256, and a seed, and writes its summary.
+    Big { nodes: u32, seed: u64 },
+}
+
+/// Why words were not read.
+#[derive(Clone, Copy, Debug, PartialEq, Eq)]
+pub enum WordFault {
+    /// The words are no use of the program.
+    Usage,
+    OutOfMemory,
+}
+
+impl From<AllocError> for WordFault {
+    ghost use Rattle.std.specs.Prelude.{◌≡◌};
+    ghost use Rattle.cli_words.specs.declared.mode.WordFault.TheVariants.{OutOfMemory};
+
+    ghost from_gives = { λ _ e. e ≡ OutOfMemory };
+
+    fn from(_error: AllocError) -> WordFault {
+        WordFault::OutOfMemory
+    }
+}

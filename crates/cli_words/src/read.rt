@@ -1,0 +1,88 @@
+//! Reading the words of the command line.
+
+ghost use Rattle.std.specs.Prelude.{◌≡◌, ◌≢◌, ◌⊎◌, Ok, Err, List, codes, option_map, map};
+ghost use Rattle.std.specs.Rc.{rc_str_bytes};
+ghost use Rattle.clap.specs.Words.{rows_of, found_of, first_of, kind_of};
+ghost use Rattle.cli_words.specs.Command.{Reads, AreModes, mode_of, mode_named, number_of};
+ghost use Rattle.cli_words.specs.Plain.{Piece, ArePlain, mode_by};
+
+use crate::command::command;
+use crate::mode::{Mode, WordFault};
+use clap::error::ErrorKind;
+use clap::{ArgMatches, Error};
+use std::alloc::Global;
+use std::rc::RcStr;
+
+fn nodes_in(matches: &ArgMatches<'_>) -> u32
+    ensures { result ≡ number_of (codes "nodes") 4294967295 12 (rows_of (found_of matches.now)) }
+{
+    match matches.get_one::<u32>("nodes") {
+        Some(nodes) => nodes,
+        None => 12,
+    }
+}
+
+fn seed_in(matches: &ArgMatches<'_>) -> u64
+    ensures { result ≡ number_of (codes "seed") 18446744073709551615 7 (rows_of (found_of matches.now)) }
+{
+    match matches.get_one::<u64>("seed") {
+        Some(seed) => seed,
+        None => 7,
+    }
+}
+
+fn name_in<'a>(matches: &ArgMatches<'a>) -> Option<&'a str>
+    ensures { option_map (λ s. s.now) result ≡ first_of (codes "mode") (rows_of (found_of matches.now)) }
+{
+    matches.get_str("mode")
+}
+
+fn mode_named(name: Option<&str>, nodes: u32, seed: u64) -> Mode
+    ensures { result ≡ mode_named (option_map (λ s. s.now) name.entry) nodes seed }
+{
+    let Some(name) = name else {
+        return Mode::Play;
+    };
+    if name == "big" {
+        Mode::Big { nodes, seed }
+    } else {
+        Mode::Play
+    }
+}
+
+fn mode_in(matches: &ArgMatches<'_>) -> Mode
+    ensures { result ≡ mode_of (rows_of (found_of matches.now)) }
+{
+    mode_named(name_in(matches), nodes_in(matches), seed_in(matches))
+}
+
+fn fault_in(error: &Error) -> WordFault
+    ensures memory { result ≡ WordFault.OutOfMemory → kind_of error.now ≡ ErrorKind.OutOfMemory }
+    ensures usage { result ≡ WordFault.Usage → kind_of error.now ≢ ErrorKind.OutOfMemory }
+{
+    match error.kind() {
+        ErrorKind::OutOfMemory => WordFault::OutOfMemory,
+        _ => WordFault::Usage,
+    }
+}
+
+/// Reads the words of the command line, of which the first is the program's name. `Usage` comes exactly where the reading of
+/// the command refuses them for another cause than memory, and `OutOfMemory` may come in its place. Plain words are never
+/// `Usage`.
+pub fn read_words(alloc: Global, words: &[RcStr]) -> Result<Mode, WordFault>
+    ensures reads { (result ≡ Err WordFault.OutOfMemory) ⊎ ((names : _) × AreModes names × Reads names (map rc_str_bytes words.now) result) }
+    ensures plain { (pieces : List Piece) → ArePlain pieces (map rc_str_bytes words.now) → (result ≡ Err WordFault.OutOfMemory) ⊎ (result ≡ Ok (mode_by pieces)) }
+{
+    read(alloc, words)
+}
+
+/// The reading of the command.
+fn read(alloc: Global, words: &[RcStr]) -> Result<Mode, WordFault>
+    ensures { (result ≡ Err WordFault.OutOfMemory) ⊎ ((names : _) × AreModes names × Reads names (map rc_str_bytes words.now) result) }
+{
+    let command = command(alloc)?;
+    match command.try_get_matches_from(words) {
+        Ok(matches) => Ok(mode_in(&matches)),
+        Err(error) => Err(fault_in(&error)),
+    }
+}

@@ -1,0 +1,61 @@
+//! Words and what they ask for, by the usage `pastry MODE [--nodes N] [--seed N] [--room N] [--size Z]`.
+
+use crate::{Mode, WordFault, read_words};
+use std::rc::RcStr;
+use std::test::Fail;
+
+fn read(rt: &HostRuntime, words: &[&str]) -> Result<Result<Mode, WordFault>, Fail> {
+    let mut given = Vec::new(rt.alloc());
+    for word in words {
+        given.push(RcStr::from_str(rt.alloc(), word)?)?;
+    }
+    Ok(read_words(rt.alloc(), &given))
+}
+
+#[test]
+fn reads_plain_words(rt: HostRuntime) -> Result<(), Fail> {
+    let big = Mode::Big { nodes: 9, seed: 0 };
+    assert_eq!(rt; read(&rt, &["pastry", "play"])?, Ok(Mode::Play));
+    assert_eq!(rt;
+        read(&rt, &["", "big"])?,
+        Ok(Mode::Big { nodes: 12, seed: 7 })
+    );
+    assert_eq!(rt;
+        read(&rt, &["p", "big", "--nodes=9", "--seed", "0"])?,
+        Ok(big)
+    );
+    assert_eq!(rt;
+        read(
+            &rt,
+            &["p", "--seed=0", "--nodes", "9", "big", "--room", "1"]
+        )?,
+        Ok(big)
+    );
+    assert_eq!(rt;
+        read(&rt, &["p", "--size", "835584", "play", "--room=4096"])?,
+        Ok(Mode::Play)
+    );
+    Ok(())
+}
+
+#[test]
+fn refuses_other_words(rt: HostRuntime) -> Result<(), Fail> {
+    let refused: [&[&str]; 12] = [
+        &[],
+        &["pastry"],
+        &["pastry", "run"],
+        &["pastry", "groups"],
+        &["pastry", "Play"],
+        &["pastry", "play", "play"],
+        &["pastry", "big", "--nodes", "1"],
+        &["pastry", "big", "--nodes", "257"],
+        &["pastry", "big", "--nodes=9", "--nodes=9"],
+        &["pastry", "big", "--seed", "18446744073709551616"],
+        &["pastry", "play", "--help"],
+        &["pastry", "play", "--nodes"],
+    ];
+    for words in refused {
+        assert_eq!(rt; read(&rt, words)?, Err(WordFault::Usage));
+    }
+    Ok(())
+}

@@ -1,0 +1,39 @@
+-- The room that a change needs.
+use Rattle.std.specs.Prelude.{◌≤◌, ◌+◌, ℕ, length, min, vec_len, vec_capacity}
+use Rattle.ring_math.specs.Files.{buried_all}
+use Rattle.file_store.specs.Store.{Store}
+use Rattle.node_parts.specs.declared.change.Change.{Change}
+use Rattle.node_parts.specs.declared.change.StoreChange.{StoreChange}
+use Rattle.node_parts.specs.declared.change.StoreChange.TheVariants as store
+use Rattle.node_parts.specs.declared.change.PastChange.{PastChange}
+use Rattle.node_parts.specs.declared.change.PastChange.TheVariants as past
+use Rattle.node_parts.specs.declared.change.Wait.{Wait}
+use Rattle.node_parts.specs.declared.change.Wait.TheVariants as wait
+use Rattle.node_parts.specs.declared.node.Node.{Node}
+
+-- the entries that may stand afterwards have room
+abbrev pub StoreFits : Store → StoreChange → Type 0
+StoreFits s store.Keep = Unit {0}
+StoreFits s (store.Set file slot) = min (length s.files + 1) 4096 ≤ s.room
+StoreFits s (store.Bury tombs) = length (buried_all s.files tombs.files) ≤ s.room
+
+-- how many inserts more may wait
+abbrev pub asks_more : PastChange → ℕ
+asks_more (past.Add p) = 1
+asks_more past.Keep = 0
+asks_more (past.TakeOut place) = 0
+asks_more (past.Hear place awaited) = 0
+asks_more (past.Leave reach joiner) = 0
+asks_more (past.End file) = 0
+
+-- how many numbers more may wait
+abbrev pub waits_more : Wait → ℕ
+waits_more wait.Keep = 0
+waits_more (wait.Add n) = 1
+waits_more (wait.Take n) = 0
+
+-- the node has the room
+pub record Fits (n : Node) (c : Change) : Type 0 where
+  pub store : StoreFits n.store c.store
+  pub past : length n.past.asks + asks_more c.past ≤ n.past.room
+  pub waiting : vec_len n.waiting + waits_more c.waiting ≤ vec_capacity n.waiting

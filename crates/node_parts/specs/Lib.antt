@@ -1,0 +1,7 @@
+pub mod Seats
+pub mod Sound
+pub mod Seen
+pub mod Change
+pub mod Fits
+pub mod Plans
+pub mod Views

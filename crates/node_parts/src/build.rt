@@ -1,0 +1,275 @@
+//! Outcomes that many rows share: what is sent and noted beside a change.
+
+ghost use Rattle.std.specs.Prelude.{◌≡◌, IfOk, OnOk, [], ◌∷◌, ◌++◌, ℕ};
+ghost use Rattle.overlay_rules.specs.State.{State};
+ghost use Rattle.overlay_rules.specs.Outcome.{nothing, becomes, sent, before, to_both, to_each, replied as replied_of, reply_message};
+ghost use Rattle.overlay_rules.specs.Routed.{one_more as one_more_of};
+ghost use Rattle.overlay_rules.specs.declared.request.Asked.TheVariants as asked;
+ghost use Rattle.wire_msg.specs.Words.{plain};
+ghost use Rattle.wire_msg.specs.declared.note.Note.TheVariants as note;
+ghost use Rattle.wire_msg.specs.declared.reply.Reply.TheVariants as reply;
+ghost use Rattle.node_parts.specs.Change.{changed, waited, phase_after, known_after, files_after, pending_after, gate_after};
+ghost use Rattle.node_parts.specs.Plans.{Plans};
+
+use crate::change::{
+    Change, GateChange, Learn, PastChange, Prepared, SeatChange, StoreChange, Wait,
+};
+use overlay_rules::Asked;
+use ring_math::{Id, OutOfMemory};
+use std::alloc::Global;
+use wire_msg::{Answer, Message, Note, Notes, Outgoing, Reply, Sends};
+
+impl Change {
+    /// Nothing but what waits.
+    pub fn waits(waiting: Wait) -> Change
+        ensures { (s : State) → changed result s ≡ waited waiting s }
+    {
+        Change {
+            seat: SeatChange::Keep,
+            left_gate: GateChange::Keep,
+            right_gate: GateChange::Keep,
+            learn: Learn::Nothing,
+            store: StoreChange::Keep,
+            past: PastChange::Keep,
+            waiting,
+        }
+    }
+
+    /// Nothing at all.
+    pub fn nothing() -> Change
+        ensures { (s : State) → changed result s ≡ s }
+    {
+        Change::waits(Wait::Keep)
+    }
+
+    /// The phase, and what is learnt.
+    pub fn seats(seat: SeatChange, learn: Learn) -> Change
+        ensures { (s : State) → changed result s ≡ record s { phase = phase_after seat s.phase; known = known_after s.me learn s.known } }
+    {
+        Change {
+            seat,
+            left_gate: GateChange::Keep,
+            right_gate: GateChange::Keep,
+            learn,
+            store: StoreChange::Keep,
+            past: PastChange::Keep,
+            waiting: Wait::Keep,
+        }
+    }
+
+    /// The phase, and the files.
+    pub fn seats_and_files(seat: SeatChange, store: StoreChange) -> Change
+        ensures { (s : State) → changed result s ≡ record s { phase = phase_after seat s.phase; files = files_after store s.files } }
+    {
+        Change {
+            seat,
+            left_gate: GateChange::Keep,
+            right_gate: GateChange::Keep,
+            learn: Learn::Nothing,
+            store,
+            past: PastChange::Keep,
+            waiting: Wait::Keep,
+        }
+    }
+
+    /// The gates.
+    pub fn gates(left_gate: GateChange, right_gate: GateChange) -> Change
+        ensures { (s : State) → changed result s ≡ record s { left_gate = gate_after left_gate s.left_gate; right_gate = gate_after right_gate s.right_gate } }
+    {
+        Change {
+            seat: SeatChange::Keep,
+            left_gate,
+            right_gate,
+            learn: Learn::Nothing,
+            store: StoreChange::Keep,
+            past: PastChange::Keep,
+            waiting: Wait::Keep,
+        }
+    }
+
+    /// The files, the inserts that wait, and the numbers that do.
+    pub fn files(store: StoreChange, past: PastChange, waiting: Wait) -> Change
+        ensures { (s : State) → changed result s ≡ record (waited waiting s) { files = files_after store s.files; pending = pending_after past s.pending } }
+    {
+        Change {
+            seat: SeatChange::Keep,
+            left_gate: GateChange::Keep,
+            right_gate: GateChange::Keep,
+            learn: Learn::Nothing,
+            store,
+            past,
+            waiting,
+        }
+    }
+}
+
+/// One hop more, up to 65,535.
+pub fn one_more(hops: u16) -> u16
+    ensures { result ≡ one_more_of hops }
+{
+    if hops == u16::MAX { hops } else { hops + 1 }
+}
+
+/// The reply to a command, as a message.
+pub fn reply_in(what: Asked, number: u64, reply: Reply) -> Message
+    ensures { plain result ≡ reply_message what number reply }
+{
+    match what {
+        Asked::Lookup => Message::LookupReply { number, reply },
+        Asked::Insert => Message::InsertReply { number, reply },
+        Asked::Fetch => Message::FetchReply { number, reply },
+        Asked::Reclaim => Message::ReclaimReply { number, reply },
+    }
+}
+
+/// Nothing is sent or noted.
+pub fn quietly(alloc: Global, change: Change) -> Prepared
+    ensures { (s t : State) → changed change s ≡ t → Plans s result (nothing t) }
+{
+    Prepared {
+        messages: Sends::new(alloc),
+        notes: Notes::new(alloc),
+        change,
+    }
+}
+
+/// One message is sent.
+pub fn sending(
+    alloc: Global,
+    change: Change,
+    receiver: Id,
+    message: Message,
+) -> Result<Prepared, OutOfMemory>
+    ensures { (s t : State) → changed change s ≡ t → IfOk result (λ p. Plans s p (becomes t (sent receiver (plain message) ∷ []) [])) }
+{
+    let mut messages = Sends::new(alloc);
+    messages.push(Outgoing { receiver, message })?;
+    Ok(Prepared {
+        messages,
+        notes: Notes::new(alloc),
+        change,
+    })
+}
+
+/// A command of the node itself is closed, and these are sent.
+pub fn closing(
+    alloc: Global,
+    change: Change,
+    messages: Sends,
+    number: u64,
+    answer: Answer,
+) -> Result<Prepared, OutOfMemory>
+    ensures { (s t : State) → changed change s ≡ t → IfOk result (λ p. Plans s p (becomes t messages (note.Closed number answer ∷ []))) }
+{
+    let mut notes = Notes::new(alloc);
+    notes.push(Note::Closed { number, answer })?;
+    Ok(Prepared {
+        messages,
+        notes,
+        change,
+    })
+}
+
+/// A command is replied, after these messages and notes.
+pub fn replied_after(
+    alloc: Global,
+    first: Prepared,
+    what: Asked,
+    origin: Id,
+    number: u64,
+    reply: Reply,
+) -> Result<Prepared, OutOfMemory>
+    ensures { (s t : State) → changed first.change s ≡ t → IfOk result (λ p. Plans s p (before first.messages first.notes (replied_of t what origin number reply))) }
+{
+    let Prepared {
+        mut messages,
+        mut notes,
+        change,
+    } = first;
+    let noted = reply.copy(alloc)?;
+    notes.push(Note::Answered {
+        origin,
+        number,
+        reply: noted,
+    })?;
+    messages.push(Outgoing {
+        receiver: origin,
+        message: reply_in(what, number, reply),
+    })?;
+    Ok(Prepared {
+        messages,
+        notes,
+        change,
+    })
+}
+
+/// A command is replied.
+pub fn replied(
+    alloc: Global,
+    change: Change,
+    what: Asked,
+    origin: Id,
+    number: u64,
+    reply: Reply,
+) -> Result<Prepared, OutOfMemory>
+    ensures { (s t : State) → changed change s ≡ t → IfOk result (λ p. Plans s p (replied_of t what origin number reply)) }
+{
+    let mut notes = Notes::new(alloc);
+    let noted = reply.copy(alloc)?;
+    notes.push(Note::Answered {
+        origin,
+        number,
+        reply: noted,
+    })?;
+    let mut messages = Sends::new(alloc);
+    messages.push(Outgoing {
+        receiver: origin,
+        message: reply_in(what, number, reply),
+    })?;
+    Ok(Prepared {
+        messages,
+        notes,
+        change,
+    })
+}
+
+/// The same message to each of these, behind the messages that are there.
+pub fn send_to_each(
+    alloc: Global,
+    messages: &mut Sends,
+    ids: &[Id],
+    message: &Message,
+) -> Result<(), OutOfMemory>
+    ensures { OnOk result (messages.new ≡ messages.old ++ to_each ids.now (plain message.now)) }
+{
+    for id in ids {
+        messages.push(Outgoing {
+            receiver: *id,
+            message: message.copy(alloc)?,
+        })?;
+    }
+    Ok(())
+}
+
+/// The same message to the left, and to the right if it is another node.
+pub fn sent_to_both(
+    alloc: Global,
+    left: Id,
+    right: Id,
+    message: &Message,
+) -> Result<Sends, OutOfMemory>
+    ensures { IfOk result (λ messages. messages ≡ to_both left right (plain message.now)) }
+{
+    let mut messages = Sends::new(alloc);
+    messages.push(Outgoing {
+        receiver: left,
+        message: message.copy(alloc)?,
+    })?;
+    if left != right {
+        messages.push(Outgoing {
+            receiver: right,
+            message: message.copy(alloc)?,
+        })?;
+    }
+    Ok(messages)
+}

@@ -1,0 +1,99 @@
+//! What a step will change, as data.
+#![tactic(auto)]
+
+use crate::lease::{Lease, Lists};
+use coverage::Reach;
+use join_core::Joiner;
+use overlay_rules::Pending;
+use ring_math::{Bytes, FileId, FileIds, Id, Ids};
+use wire_msg::{Notes, Sends};
+
+/// What becomes of the phase.
+#[derive(Drop)]
+pub enum SeatChange {
+    Keep,
+    /// A join begins, goes on or ends. Leases are asked for with no lists yet; of a join that is done nothing is changed.
+    To(Joiner),
+    /// What neighbours hand over is kept, on each side that had nothing.
+    Granted {
+        left: Option<Lists>,
+        right: Option<Lists>,
+    },
+    /// It has joined by this attempt, with these links.
+    Ready {
+        attempt: u32,
+        left: Id,
+        right: Id,
+    },
+}
+
+/// What becomes of a gate.
+#[derive(Drop)]
+pub enum GateChange {
+    Keep,
+    Clear,
+    Set(Lease),
+}
+
+/// What is learnt, in order.
+#[derive(Drop)]
+pub enum Learn {
+    Nothing,
+    One(Id),
+    Two(Id, Id),
+    All(Ids),
+}
+
+/// What becomes of the files.
+#[derive(Drop)]
+pub enum StoreChange {
+    Keep,
+    /// Bytes or a tombstone for a file, unless there is neither an entry for it nor room for one.
+    Set { file: FileId, slot: Option<Bytes> },
+    /// These become tombstones, in order.
+    Bury(FileIds),
+}
+
+/// What becomes of the inserts that wait for replicas.
+#[derive(Drop)]
+pub enum PastChange {
+    Keep,
+    /// This one waits, in the place of another of its command.
+    Add(Pending),
+    /// The one at this place is over.
+    TakeOut { place: usize },
+    /// The one at this place awaits only these.
+    Hear { place: usize, awaited: Ids },
+    /// Those in the gap of this joiner are over.
+    Leave { reach: Reach, joiner: Id },
+    /// Those of this file are over.
+    End { file: FileId },
+}
+
+/// What becomes of the numbers that wait.
+#[derive(Clone, Copy, Debug, PartialEq, Eq)]
+pub enum Wait {
+    Keep,
+    Add { number: u64 },
+    Take { number: u64 },
+}
+
+/// What a step changes of a node.
+#[derive(Drop)]
+pub struct Change {
+    pub seat: SeatChange,
+    pub left_gate: GateChange,
+    pub right_gate: GateChange,
+    pub learn: Learn,
+    pub store: StoreChange,
+    pub past: PastChange,
+    pub waiting: Wait,
+}
+
+/// What a step sends, notes and changes.
+#[derive(Drop)]
+pub struct Prepared {
+    pub messages: Sends,
+    pub notes: Notes,
+    pub change: Change,
+}

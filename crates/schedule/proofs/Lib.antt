@@ -1,0 +1,13 @@
+pub mod Turning
+pub mod Places
+pub mod Settling
+pub mod Playing
+pub mod Beginnings
+pub mod Numbered
+pub mod Filling
+pub mod Planning
+pub mod Making
+pub mod Names
+pub mod Keeping
+pub mod Adding
+pub mod Ending

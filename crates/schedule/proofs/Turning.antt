@@ -1,0 +1,97 @@
+-- The turns of an action that has begun.
+use Rattle.std.proofs.Common.{◌≡◌, ◌<◌, ◌≤◌, ℕ, zero, suc, ◌+◌, ◌-◌, ◌^◌, ◌%◌, Option, Some, None, List, [], ◌∷◌, ◌++◌, replicate, refl, sym, subst, ap, ◌∙◌, ◌⊎◌, inl, inr, arith, append_assoc}
+use Rattle.rand_chacha.specs.ChaCha.{ChaCha, next_word}
+use Rattle.overlay_rules.specs.declared.entry.Event.TheVariants as event
+use Rattle.overlay_rules.specs.Played.{Action as Act, Settle, Deliver, Shuffle, drawn}
+use Rattle.schedule.specs.declared.turn.Turn.{Turn}
+use Rattle.schedule.specs.declared.turn.Turn.TheVariants as turn
+use Rattle.schedule.specs.Begun.{Gives, IsDelivery}
+use Rattle.schedule.specs.Turns.{Happens, turned, delivery}
+use Rattle.schedule.specs.Words.{words_from, words_to_come, generator_at, word_of}
+
+-- the words of a generator at its start are the seed's
+pub words_are : (seed t count : ℕ) → t + count < 2 ^ 68 → words_to_come (generator_at seed t) count ≡ words_from seed t count
+unfolding words_from words_to_come
+words_are seed t zero h = refl
+words_are seed t (suc count) h =
+    ap (λ p. word_of seed t ∷ words_to_come (generator_at seed p) count) next ∙
+    ap (λ ws. word_of seed t ∷ ws) (words_are seed (suc t) count (omega arith))
+  where
+    next : (t + 1) % 2 ^ 68 ≡ suc t
+    next = grind arith
+
+-- one delivery of a message
+pub gives_delivery : (m copies sent : ℕ) (oldest : Option ℕ) (t : Turn) → IsDelivery m sent t → Gives (Deliver m ∷ []) copies sent oldest [] t
+gives_delivery m copies sent oldest t h = record { step = delivery m sent; means = h; is = λ acts. refl }
+
+-- a further copy of a delivery
+pub gives_again : (m again left copies sent : ℕ) (oldest : Option ℕ) (t : Turn) → 0 < again → IsDelivery m sent t →
+    Gives (replicate again (Deliver m) ++ Settle left ∷ []) copies sent oldest (replicate (again - 1) (Deliver m) ++ Settle left ∷ []) t
+gives_again m again left copies sent oldest t lt h =
+    subst (λ n. Gives (replicate n (Deliver m) ++ Settle left ∷ []) copies sent oldest (replicate (again - 1) (Deliver m) ++ Settle left ∷ []) t) more one
+  where
+    more : suc (again - 1) ≡ again
+    more = omega arith
+
+    one : Gives (replicate (suc (again - 1)) (Deliver m) ++ Settle left ∷ []) copies sent oldest (replicate (again - 1) (Deliver m) ++ Settle left ∷ []) t
+    one = record { step = delivery m sent; means = h; is = λ acts. refl }
+
+-- the oldest message of a settle, the first of its copies
+gives_first : (m left copies sent o : ℕ) →
+    Gives (Settle (suc left) ∷ []) (suc copies) sent (Some o) (replicate copies (Deliver o) ++ Settle left ∷ []) (turn.Deliver o)
+gives_first m left copies sent o = record {
+  step = Happens (event.Deliver o);
+  means = λ actions. refl;
+  is = λ acts. ap (λ (front : List Act). record { step = Happens (event.Deliver o); left = front; copies = suc copies }) (sym (append_assoc (replicate copies (Deliver o)) (Settle left ∷ []) acts));
+}
+
+pub gives_oldest : (m again left copies sent o : ℕ) → again ≤ 0 → (left ≡ 0 → ⊥) → 1 ≤ copies →
+    Gives (replicate again (Deliver m) ++ Settle left ∷ []) copies sent (Some o) (replicate (copies - 1) (Deliver o) ++ Settle (left - 1) ∷ []) (turn.Deliver o)
+gives_oldest m again left copies sent o none some copied =
+    subst (λ a. Gives (replicate a (Deliver m) ++ Settle left ∷ []) copies sent (Some o) (replicate (copies - 1) (Deliver o) ++ Settle (left - 1) ∷ []) (turn.Deliver o)) nothing
+    (subst (λ n. Gives (Settle n ∷ []) copies sent (Some o) (replicate (copies - 1) (Deliver o) ++ Settle (left - 1) ∷ []) (turn.Deliver o)) more
+    (subst (λ k. Gives (Settle (suc (left - 1)) ∷ []) k sent (Some o) (replicate (copies - 1) (Deliver o) ++ Settle (left - 1) ∷ []) (turn.Deliver o)) enough
+    (gives_first m (left - 1) (copies - 1) sent o)))
+  where
+    nothing : 0 ≡ again
+    nothing = omega arith
+
+    more : suc (left - 1) ≡ left
+    more = omega arith
+
+    enough : suc (copies - 1) ≡ copies
+    enough = omega arith
+
+-- a settle that is at its end
+pub settle_ends : (m again left copies sent : ℕ) (oldest : Option ℕ) → again ≤ 0 → (left ≡ 0) ⊎ (oldest ≡ None) → (acts : List Act) →
+    turned ((replicate again (Deliver m) ++ Settle left ∷ []) ++ acts) copies sent oldest ≡ turned acts copies sent oldest
+settle_ends m (suc again) left copies sent oldest none ends acts = absurd (omega arith)
+settle_ends m zero zero copies sent oldest none ends acts = refl
+settle_ends m zero (suc left) copies sent oldest none (inl h) acts = absurd (omega arith)
+settle_ends m zero (suc left) copies sent oldest none (inr h) acts = rw h refl
+
+-- the next word of a shuffle
+pub gives_word : (g : ChaCha) (left word m copies sent : ℕ) (oldest : Option ℕ) (t : Turn) → (left ≡ 0 → ⊥) → word ≡ (next_word 4 g).0 → m ≡ drawn word sent → IsDelivery m sent t →
+    Gives (Shuffle (words_to_come g left) ∷ []) copies sent oldest (Shuffle (words_to_come (next_word 4 g).1 (left - 1)) ∷ []) t
+unfolding words_to_come
+gives_word g left word m copies sent oldest t some is at h =
+    subst (λ n. Gives (Shuffle (words_to_come g n) ∷ []) copies sent oldest (Shuffle (words_to_come (next_word 4 g).1 (left - 1)) ∷ []) t) more one
+  where
+    more : suc (left - 1) ≡ left
+    more = omega arith
+
+    same : drawn (next_word 4 g).0 sent ≡ m
+    same = ap (λ w. drawn w sent) (sym is) ∙ sym at
+
+    one : Gives (Shuffle (words_to_come g (suc (left - 1))) ∷ []) copies sent oldest (Shuffle (words_to_come (next_word 4 g).1 (left - 1)) ∷ []) t
+    one = record {
+      step = delivery m sent;
+      means = h;
+      is = λ acts. ap (λ n. record { step = delivery n sent; left = Shuffle (words_to_come (next_word 4 g).1 (left - 1)) ∷ acts; copies = copies }) same;
+    }
+
+-- a shuffle that begins
+pub shuffle_begins : (seed count copies sent : ℕ) (oldest : Option ℕ) (g : ChaCha) (acts : List Act) → count < 2 ^ 64 → g ≡ generator_at seed 0 →
+    turned (Shuffle (words_from seed 0 count) ∷ acts) copies sent oldest ≡ turned (Shuffle (words_to_come g count) ∷ acts) copies sent oldest
+shuffle_begins seed count copies sent oldest g acts h is =
+    ap (λ ws. turned (Shuffle ws ∷ acts) copies sent oldest) (sym (ap (λ h. words_to_come h count) is ∙ words_are seed 0 count (omega arith)))
