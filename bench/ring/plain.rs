@@ -2,26 +2,7 @@
 
 use std::time::Instant;
 
-#[derive(Clone, Copy, PartialEq, Eq)]
-struct Id(u128);
-
-fn cw(a: Id, b: Id) -> u128 {
-    b.0.wrapping_sub(a.0)
-}
-
-fn dist(a: Id, b: Id) -> u128 {
-    cw(a, b).min(cw(b, a))
-}
-
-fn between(a: Id, x: Id, b: Id) -> bool {
-    x != a && (a == b || x != b && cw(a, x) < cw(a, b))
-}
-
-fn nearer(a: Id, b: Id, key: Id) -> bool {
-    let from_a = dist(a, key);
-    let from_b = dist(b, key);
-    from_a < from_b || from_a == from_b && cw(a, key) < cw(b, key)
-}
+include!("../circle.rs");
 
 fn shared(a: Id, b: Id) -> u8 {
     ((a.0 ^ b.0).leading_zeros() / 4) as u8
@@ -64,27 +45,6 @@ fn stands_alone(reach: &Reach) -> bool {
 
 fn covers(reach: &Reach, key: Id) -> bool {
     is_in_arcs(reach.me, effective_left(reach), effective_right(reach), key) || stands_alone(reach)
-}
-
-/// Words by a linear congruence, two to an identifier.
-struct Words {
-    word: u64,
-}
-
-impl Words {
-    fn next(&mut self) -> u64 {
-        self.word = self
-            .word
-            .wrapping_mul(6364136223846793005)
-            .wrapping_add(1442695040888963407);
-        self.word
-    }
-
-    fn id(&mut self) -> Id {
-        let high = self.next();
-        let low = self.next();
-        Id((u128::from(high) << 64) | u128::from(low))
-    }
 }
 
 fn distances(count: u64) -> u128 {

@@ -2,27 +2,9 @@
 
 use std::time::Instant;
 
-#[derive(Clone, Copy, PartialEq, Eq)]
-struct Id(u128);
+include!("../circle.rs");
 
 const ME: Id = Id(0x0123456789abcdeffedcba9876543210);
-
-fn cw(a: Id, b: Id) -> u128 {
-    b.0.wrapping_sub(a.0)
-}
-
-fn dist(a: Id, b: Id) -> u128 {
-    cw(a, b).min(cw(b, a))
-}
-
-fn between(a: Id, x: Id, b: Id) -> bool {
-    x != a && (a == b || x != b && cw(a, x) < cw(a, b))
-}
-
-fn nearer(a: Id, b: Id, key: Id) -> bool {
-    let (from_a, from_b) = (dist(a, key), dist(b, key));
-    from_a < from_b || from_a == from_b && cw(a, key) < cw(b, key)
-}
 
 fn shared(a: Id, b: Id) -> usize {
     ((a.0 ^ b.0).leading_zeros() / 4) as usize
@@ -168,26 +150,6 @@ fn next_hop(left: Id, right: Id, known: &Knowledge, key: Id) -> Hop {
         _ => known
             .best(key)
             .map_or_else(|| to_leaf(known, key), Hop::To),
-    }
-}
-
-struct Words {
-    word: u64,
-}
-
-impl Words {
-    fn next(&mut self) -> u64 {
-        self.word = self
-            .word
-            .wrapping_mul(6364136223846793005)
-            .wrapping_add(1442695040888963407);
-        self.word
-    }
-
-    fn id(&mut self) -> Id {
-        let high = self.next();
-        let low = self.next();
-        Id((u128::from(high) << 64) | u128::from(low))
     }
 }
 
