@@ -1,12 +1,11 @@
 -- The row of an acknowledgement, by the insert that it is for.
-use Rattle.std.proofs.Common.{◌≡◌, ◌<◌, ℕ, Bool, true, false, ◌&&◌, not, ◌==◌, Option, Some, None, List, [], ◌∷◌, length, filter, position, get_or, slice_get, refl, sym, ap, ◌∙◌, arith}
+use Rattle.std.proofs.Common.{◌≡◌, ◌<◌, ℕ, Bool, true, false, ◌&&◌, not, ◌==◌, Option, Some, List, [], ◌∷◌, length, filter, position, get_or, slice_get, refl, sym, ap, ◌∙◌, arith}
 use Rattle.std.proofs.lemmas.List.Quantifiers.{position-Some}
 use Rattle.std.proofs.lemmas.Option.{slice_get-get_or}
 use Rattle.std.proofs.lemmas.Bool.Decides.{Decides-eqb}
 use Rattle.overlay_rules.specs.declared.request.Pending.{Pending}
 use Rattle.overlay_rules.specs.State.{State}
-use Rattle.overlay_rules.specs.Outcome.{nothing, becomes}
-use Rattle.overlay_rules.specs.Roots.{is_ask}
+use Rattle.overlay_rules.specs.Outcome.{nothing}
 use Rattle.overlay_rules.specs.Replicas.{awaits, ack_at, ack_of, ack_taken, on_replica_ack}
 use Rattle.past_core.specs.Waits.{heard_in, heard_at}
 use Rattle.past_core.specs.Acks.{stored_at}

@@ -1,5 +1,5 @@
 -- The insert at a place, replaced.
-use Rattle.std.proofs.Common.{◌≡◌, ◌<◌, ◌≤◌, ℕ, suc, Some, None, List, ◌∷◌, ◌++◌, length, take, drop, set, get_or, slice_get, refl, sym, ap, ◌∙◌}
+use Rattle.std.proofs.Common.{◌≡◌, ◌<◌, ◌≤◌, ℕ, List, length, set, get_or, sym, ap, ◌∙◌}
 use Rattle.std.proofs.lemmas.List.{set_split}
 use Rattle.std.proofs.lemmas.Option.{slice_get-get_or, slice_get_past}
 use Rattle.overlay_rules.specs.declared.request.Pending.{Pending}

@@ -1,7 +1,6 @@
 -- The row of a reclaim where bytes are held.
-use Rattle.std.proofs.Common.{◌≡◌, ℕ, Bool, true, false, Option, Some, None, List, [], ◌∷◌, ◌++◌, map, filter, refl, sym, ap, ◌∙◌}
+use Rattle.std.proofs.Common.{◌≡◌, ℕ, Bool, true, false, Option, Some, None, List, ◌∷◌, map, filter, refl, sym, ap, ◌∙◌}
 use Rattle.ring_math.specs.Files.{Slot, is_entry}
-use Rattle.file_store.specs.declared.answer.Bury.{Bury}
 use Rattle.file_store.specs.declared.answer.Bury.TheVariants as bury
 use Rattle.file_store.specs.Answers.{bury_at}
 use Rattle.wire_msg.specs.declared.reply.Reply.TheVariants as reply

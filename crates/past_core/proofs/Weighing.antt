@@ -1,8 +1,8 @@
 -- The row of an insert, by what the insert meets.
-use Rattle.std.proofs.Common.{◌≡◌, ℕ, ◌-◌, Bool, true, false, nat_lt, if◌then◌else◌, Option, Some, None, List, [], ◌∷◌, length, refl, sym, ap, ◌∙◌}
+use Rattle.std.proofs.Common.{◌≡◌, ℕ, ◌-◌, Bool, true, false, nat_lt, Option, Some, None, List, length, refl, sym, ap, ◌∙◌}
 use Rattle.ring_math.specs.Bytewise.{same_bytes}
 use Rattle.ring_math.specs.Files.{Slot, slot_of, has_room}
-use Rattle.ring_math.specs.Sides.{leaves, also_of}
+use Rattle.ring_math.specs.Sides.{leaves}
 use Rattle.leaf_set.specs.Leaves.{Leaves, StandsFor, in_order}
 use Rattle.file_store.specs.Answers.{put_at, put_of}
 use Rattle.overlay_rules.specs.State.{State}

@@ -1,10 +1,10 @@
 -- What an acknowledgement makes of a state, by what it is for.
-use Rattle.std.specs.Prelude.{◌<◌, ℕ, Option, Some, None, List, [], ◌∷◌, slice_get}
+use Rattle.std.specs.Prelude.{◌<◌, ℕ, Option, Some, None, List, ◌∷◌, slice_get}
 use Rattle.wire_msg.specs.declared.reply.Reply.TheVariants as reply
 use Rattle.overlay_rules.specs.declared.request.Asked.TheVariants as asked
 use Rattle.overlay_rules.specs.declared.request.Pending.{Pending}
 use Rattle.overlay_rules.specs.State.{State}
-use Rattle.overlay_rules.specs.Outcome.{Outcome, nothing, becomes, replied}
+use Rattle.overlay_rules.specs.Outcome.{Outcome, nothing, replied}
 use Rattle.past_core.specs.declared.acks.Ack.{Ack}
 use Rattle.past_core.specs.declared.acks.Ack.TheVariants as ack
 use Rattle.past_core.specs.Waits.{taken_out, heard_at}

@@ -1,4 +1,4 @@
-use Rattle.std.proofs.Common.{◌≡◌, ℕ, arith, ap, sym, ◌∙◌, length, set, List}
+use Rattle.std.proofs.Common.{◌≡◌, arith, ap, sym, ◌∙◌, set}
 use Rattle.overlay_rules.specs.declared.request.Pending.{Pending}
 use Rattle.past_core.specs.Waits.{Waits, heard_at}
 use Rattle.past_core.proofs.Places.{heard-set, heard-past}

@@ -1,8 +1,7 @@
-use Rattle.std.proofs.Common.{◌≡◌, ◌<◌, ℕ, List, [], not, ◌==◌, length, filter, get_or, arith, sym, ap, ◌∙◌}
+use Rattle.std.proofs.Common.{◌≡◌, ◌<◌, not, ◌==◌, length, filter, get_or, arith, sym, ap, ◌∙◌}
 use Rattle.std.proofs.lemmas.Bool.Decides.{nat_tests}
 use Rattle.overlay_rules.specs.declared.request.Pending.{Pending}
-use Rattle.overlay_rules.specs.State.{State}
-use Rattle.past_core.proofs.Acking.{IsAt, is_at, ack-last, ack-heard, none-long, none-short}
+use Rattle.past_core.proofs.Acking.{is_at, ack-last, ack-heard, none-long, none-short}
 use Rattle.past_core.proofs.past.Past.what_ack.Goals as goal
 
 pub returns-then-is_empty-clause-row : goal.returns-then-is_empty-clause-row
