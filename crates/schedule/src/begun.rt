@@ -21,6 +21,28 @@ pub(crate) enum Begun {
 }
 
 impl Begun {
+    pub(crate) fn copy(&self) -> Begun
+        ensures { result ≡ self.now }
+    {
+        match self {
+            Begun::Nothing => Begun::Nothing,
+            Begun::Deliver(message) => Begun::Deliver(*message),
+            Begun::Settle {
+                message,
+                again,
+                left,
+            } => Begun::Settle {
+                message: *message,
+                again: *again,
+                left: *left,
+            },
+            Begun::Shuffle { left, words } => Begun::Shuffle {
+                left: *left,
+                words: words.copy(),
+            },
+        }
+    }
+
     /// The next turn of the action, None where it has no more.
     #[tactic(auto, unfolding(crate::specs::Words::words_to_come))]
     pub(crate) fn turn(&mut self, copies: u8, sent: u64, oldest: Option<u64>) -> Option<Turn>

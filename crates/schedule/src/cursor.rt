@@ -46,6 +46,17 @@ impl Cursor {
         }
     }
 
+    /// The same place. It takes no memory.
+    pub fn copy(&self) -> Cursor
+        ensures { result ≡ self.now }
+    {
+        Cursor {
+            place: self.place,
+            begun: self.begun.copy(),
+            copies: self.copies,
+        }
+    }
+
     /// The next turn, where so many messages were sent and this is the oldest that was never delivered. The scenario is
     /// that of the calls before on this cursor.
     pub fn next(&mut self, scenario: &Scenario, sent: u64, oldest: Option<u64>) -> Turn

@@ -41,6 +41,14 @@ impl Words {
         }
     }
 
+    pub(crate) fn copy(&self) -> Words
+        ensures { result ≡ self.now }
+    {
+        Words {
+            generator: self.generator.clone().unwrap(),
+        }
+    }
+
     pub(crate) fn next(&mut self) -> u32
         ensures word { result ≡ (next_word 4 self.old).0 }
         ensures after { self.new ≡ (next_word 4 self.old).1 }
