@@ -5,12 +5,12 @@
 ghost use Rattle.std.specs.Prelude.{◌≡◌, ◌≢◌, ◌<◌, ◌+◌, ◌*◌, ℕ, List, [], is_none, MatchOption, IfOk};
 ghost use Rattle.std.specs.Bool.{OnTrue, OnFalse};
 ghost use Rattle.ring_math.specs.Members.{IsClosest};
-ghost use Rattle.ring_math.specs.Ring.{shared_of};
+ghost use Rattle.ring_math.specs.Nearer.{improves};
+ghost use Rattle.ring_math.specs.Ring.{dist_of, is_nearer, shared_of};
 ghost use Rattle.ring_math.specs.Sides.{learn as learn_of};
-ghost use Rattle.route_table.specs.Best.{better_of as better_in};
 ghost use Rattle.route_table.specs.Entries.{StandsFor, Improves, entry_in, is_new, with_entry};
 
-use ring_math::{Id, OutOfMemory, digit, improves, nearer_of, shared};
+use ring_math::{Id, OutOfMemory, cw, digit, dist, shared};
 use std::alloc::Global;
 use std::marker::Model;
 
@@ -55,14 +55,23 @@ fn row_of(me: Id, id: Id) -> u8
     shared(me, id)
 }
 
-/// The best so far with one entry more, which counts where it holds an identifier that improves.
-fn better_of(best: Option<Id>, entry: Option<Id>, key: Id, least: u8, than: Id) -> Option<Id>
-    ensures { result ≡ better_in best entry key least than }
+/// Whether an identifier is nearer to the key than another, whose distance from the key is known.
+#[tactic(auto, unfolding(ring_math::specs::Ring::is_nearer))]
+fn nearer_than(id: Id, other: Id, from_other: u128, key: Id) -> bool
+    requires { from_other ≡ dist_of other key }
+    ensures { result ≡ is_nearer id other key }
 {
-    match entry {
-        Some(id) if improves(id, key, least, than) => nearer_of(best, Some(id), key),
-        _ => best,
-    }
+    let from_id = dist(id, key);
+    from_id < from_other || from_id == from_other && cw(id, key) < cw(other, key)
+}
+
+/// Whether an identifier shares at least `least` digits with the key and is nearer to it than another, whose distance
+/// from the key is known.
+fn improves_on(id: Id, key: Id, least: u8, other: Id, from_other: u128) -> bool
+    requires { from_other ≡ dist_of other key }
+    ensures { result ≡ improves key least other id }
+{
+    nearer_than(id, other, from_other, key) && least <= shared(id, key)
 }
 
 impl RouteTable {
@@ -145,11 +154,17 @@ impl RouteTable {
         ensures { let better = λ (z : ℕ). Improves self.now.entries key least than z in
             MatchOption result ((z : ℕ) → better z → ⊥) (λ y. IsClosest better key y) }
     {
-        let mut best = None;
+        // What is nearer than the nearest so far is nearer than `than`, so one comparison does for both.
+        let mut nearest = than;
+        let mut distance = dist(than, key);
         for entry in self.entries() {
-            best = better_of(best, *entry, key, least, than);
+            let Some(id) = *entry else { continue };
+            if improves_on(id, key, least, nearest, distance) {
+                nearest = id;
+                distance = dist(id, key);
+            }
         }
-        best
+        if nearest == than { None } else { Some(nearest) }
     }
 }
 
