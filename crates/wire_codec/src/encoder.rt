@@ -3,8 +3,7 @@
 ghost use Rattle.std.specs.Prelude.{◌≡◌, ◌++◌, ◌∷◌, IfOk, OnOk};
 ghost use Rattle.std.specs.Int.{w32, to_be_bytes};
 ghost use Rattle.wire_msg.specs.Words.{plain_envelope};
-ghost use Rattle.wire_codec.specs.Kinds.{number_of, version_of};
-ghost use Rattle.wire_codec.specs.Spelling.{version_number, Spells};
+ghost use Rattle.wire_codec.specs.Spelling.{Spells};
 
 use crate::kind::Kind;
 use crate::put::put_addresses;
@@ -19,18 +18,11 @@ const HEADER: usize = 6;
 /// The bytes of sender, receiver and stamp.
 const ADDRESSES: usize = 40;
 
-fn put_header(out: &mut Vec<u8>, kind: Kind, size: u32) -> Result<(), OutOfMemory>
-    ensures { OnOk result (out.new.items ≡ out.old.items ++ (version_number (version_of kind) ∷ number_of kind ∷ to_be_bytes w32 size)) }
+fn put_header(out: &mut Vec<u8>, version: u8, number: u8, size: u32) -> Result<(), OutOfMemory>
+    ensures { OnOk result (out.new.items ≡ out.old.items ++ (version ∷ number ∷ to_be_bytes w32 size)) }
 {
     let [first, second, third, fourth] = size.to_be_bytes();
-    out.extend_from_slice(&[
-        kind.version().number(),
-        kind.number(),
-        first,
-        second,
-        third,
-        fourth,
-    ])?;
+    out.extend_from_slice(&[version, number, first, second, third, fourth])?;
     Ok(())
 }
 
@@ -38,9 +30,13 @@ fn put_header(out: &mut Vec<u8>, kind: Kind, size: u32) -> Result<(), OutOfMemor
 pub fn encode(alloc: Global, envelope: &Envelope) -> Result<Frame, OutOfMemory>
     ensures { IfOk result (λ frame. Spells frame (plain_envelope envelope.now)) }
 {
+    // Kind and size are found together, before the allocation, so that one branch on the message does for both.
     let size = ADDRESSES + message_size(&envelope.message);
+    let kind = Kind::of_message(&envelope.message);
+    let version = kind.version().number();
+    let number = kind.number();
     let mut out = Vec::with_capacity(alloc, HEADER + size)?;
-    put_header(&mut out, Kind::of_message(&envelope.message), size as u32)?;
+    put_header(&mut out, version, number, size as u32)?;
     put_addresses(&mut out, envelope.sender, envelope.receiver, envelope.stamp)?;
     put_message(&mut out, &envelope.message)?;
     Ok(Frame::from(out))

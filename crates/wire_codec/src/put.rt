@@ -57,7 +57,31 @@ pub(crate) fn put_asked(out: &mut Vec<u8>, origin: Id, number: u64) -> Result<()
     Ok(())
 }
 
-/// Five words at once.
+/// Five words, where the bytes have to grow first.
+#[cold]
+#[inline(never)]
+fn grow_by_five_words(
+    out: &mut Vec<u8>,
+    a: u64,
+    b: u64,
+    c: u64,
+    d: u64,
+    e: u64,
+) -> Result<(), OutOfMemory>
+    ensures { OnOk result (out.new.items ≡ out.old.items ++ flat_map (to_be_bytes w64) (a ∷ (b ∷ (c ∷ (d ∷ (e ∷ [])))))) }
+{
+    let words = [
+        a.to_be_bytes(),
+        b.to_be_bytes(),
+        c.to_be_bytes(),
+        d.to_be_bytes(),
+        e.to_be_bytes(),
+    ];
+    out.extend_from_slice(words.as_flattened())?;
+    Ok(())
+}
+
+/// Five words at once. Growing is a call of its own, so that nothing is saved for it where there is room.
 #[inline(never)]
 fn put_five_words(
     out: &mut Vec<u8>,
@@ -69,6 +93,9 @@ fn put_five_words(
 ) -> Result<(), OutOfMemory>
     ensures { OnOk result (out.new.items ≡ out.old.items ++ flat_map (to_be_bytes w64) (a ∷ (b ∷ (c ∷ (d ∷ (e ∷ [])))))) }
 {
+    if out.capacity() - out.len() < 40 {
+        return grow_by_five_words(out, a, b, c, d, e);
+    }
     let words = [
         a.to_be_bytes(),
         b.to_be_bytes(),
