@@ -1,8 +1,10 @@
 -- What each state of a node keeps: the node and those that it knows are identifiers, and it never knows itself; who probes knows
--- somebody; who asks for leases stands strictly between two that it knows; and each link is the node itself or known.
-use Rattle.std.specs.Prelude.{◌≡◌, ◌≢◌, ◌⊎◌, ◌<◌, ◌^◌, ℕ, true, List, [], Contains}
+-- somebody; who asks for leases stands strictly between two that it knows; each link is the node itself or known; and an insert
+-- waits for at most eight replicas.
+use Rattle.std.specs.Prelude.{◌≡◌, ◌≢◌, ◌⊎◌, ◌<◌, ◌≤◌, ◌^◌, ℕ, true, List, [], Contains, length}
 use Rattle.ring_math.specs.Ring.{is_between}
 use Rattle.ring_math.specs.Members.{InRing}
+use Rattle.overlay_rules.specs.declared.request.Pending.{Pending}
 use Rattle.overlay_rules.specs.State.{State, Phase, Waiting, Asking, Probing, Leasing, Ready}
 
 -- the node itself, or known
@@ -31,3 +33,4 @@ pub record IsSound (s : State) : Type 0 where
   pub in_ring : InRing (Contains s.known)
   pub others : Contains s.known s.me → ⊥
   pub phase : PhaseIsSound s.me s.known s.phase
+  pub pending : (p : Pending) → Contains s.pending p → length p.targets ≤ 8

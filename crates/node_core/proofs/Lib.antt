@@ -1,0 +1,10 @@
+pub mod Rows
+pub mod Gates
+pub mod Few
+pub mod Sound
+pub mod Storing
+pub mod Routing
+pub mod Replies
+pub mod Replicas
+pub mod Reclaims
+pub mod Answered

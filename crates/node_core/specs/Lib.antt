@@ -1,0 +1,6 @@
+pub mod Asked
+pub mod Pledged
+pub mod Inputs
+pub mod Gives
+pub mod Rows
+pub mod Replies

@@ -1,0 +1,161 @@
+//! What a node does with what comes to it: the row of each kind.
+
+ghost use Rattle.std.specs.Prelude.{◌≡◌, IfOk, List, ℕ};
+ghost use Rattle.overlay_rules.specs.Step.{step as step_of, on_message as on_message_of, on_command as on_command_of};
+ghost use Rattle.wire_msg.specs.Words.{plain};
+ghost use Rattle.node_parts.specs.Seen.{seen, Shows};
+ghost use Rattle.node_parts.specs.Plans.{Plans};
+ghost use Rattle.node_core.specs.Inputs.{plain_input};
+
+use crate::files::fetch::on_fetch;
+use crate::files::handover::on_handover;
+use crate::files::insert::on_insert;
+use crate::files::lookup::on_lookup;
+use crate::files::reclaim::on_reclaim;
+use crate::files::replicas::{on_replica_ack, on_replicate};
+use crate::files::replies::on_reply;
+use crate::input::Input;
+use crate::joins::asking::{on_join, on_join_request};
+use crate::joins::ending::{on_deny, on_give_up, on_join_refuse};
+use crate::joins::finishing::{on_announce, on_grant};
+use crate::joins::gates::{on_confirm, on_release};
+use crate::joins::leasing::on_lease_request;
+use crate::joins::probing::{on_join_reply, on_probe, on_probe_reply};
+use gate_core::Gate;
+use node_parts::{Change, Node, Prepared, Wait, quietly};
+use ring_math::{Id, OutOfMemory};
+use std::alloc::Global;
+use wire_msg::{Command, Message};
+
+fn on_message(
+    node: &Node,
+    alloc: Global,
+    from: Id,
+    message: &Message,
+) -> Result<Prepared, OutOfMemory>
+    ensures { (known : List ℕ) → Shows node.now known → IfOk result (λ p. Plans (seen node.now known) p (on_message_of (seen node.now known) from (plain message.now))) }
+{
+    match message {
+        Message::Lookup {
+            origin,
+            number,
+            key,
+            hops,
+        } => on_lookup(node, alloc, Wait::Keep, *origin, *number, *key, *hops),
+        Message::Insert {
+            origin,
+            number,
+            hops,
+            file,
+            copies,
+            bytes,
+        } => {
+            on_insert(
+                node,
+                alloc,
+                Wait::Keep,
+                *origin,
+                *number,
+                *hops,
+                file,
+                *copies,
+                bytes,
+            )
+        }
+        Message::Fetch {
+            origin,
+            number,
+            hops,
+            file,
+        } => on_fetch(node, alloc, Wait::Keep, *origin, *number, *hops, file),
+        Message::Reclaim {
+            origin,
+            number,
+            hops,
+            file,
+        } => on_reclaim(node, alloc, Wait::Keep, *origin, *number, *hops, file),
+        Message::LookupReply { number, reply } => on_reply(node, alloc, *number, reply),
+        Message::InsertReply { number, reply } => on_reply(node, alloc, *number, reply),
+        Message::FetchReply { number, reply } => on_reply(node, alloc, *number, reply),
+        Message::ReclaimReply { number, reply } => on_reply(node, alloc, *number, reply),
+        Message::Replicate {
+            origin,
+            number,
+            file,
+            bytes,
+        } => on_replicate(node, alloc, from, *origin, *number, file, bytes),
+        Message::ReplicaAck {
+            origin,
+            number,
+            file,
+        } => on_replica_ack(node, alloc, from, *origin, *number, file),
+        Message::Handover { file, bytes } => on_handover(node, alloc, file, bytes),
+        Message::JoinRequest {
+            joiner,
+            attempt,
+            hops,
+        } => on_join_request(node, alloc, *joiner, *attempt, *hops),
+        Message::JoinReply { attempt, members } => on_join_reply(node, alloc, *attempt, members),
+        Message::JoinRefuse { attempt, why } => on_join_refuse(node, alloc, from, *attempt, *why),
+        Message::Probe { attempt } => on_probe(node, alloc, from, *attempt),
+        Message::ProbeReply { attempt, members } => on_probe_reply(
+            node, alloc, from, *attempt, members,
+        ),
+        Message::LeaseRequest {
+            attempt,
+            left,
+            right,
+        } => {
+            let request = Gate {
+                joiner: from,
+                attempt: *attempt,
+                left: *left,
+                right: *right,
+            };
+            on_lease_request(node, alloc, &request)
+        }
+        Message::Grant {
+            attempt,
+            manifest,
+            tombs,
+        } => on_grant(node, alloc, from, *attempt, manifest, tombs),
+        Message::Deny { attempt, why } => on_deny(node, alloc, from, *attempt, *why),
+        Message::Release { attempt } => Ok(on_release(node, alloc, from, *attempt)),
+        Message::Confirm { attempt } => Ok(on_confirm(node, alloc, from, *attempt)),
+        Message::Announce => Ok(on_announce(alloc, from)),
+    }
+}
+
+fn on_command(
+    node: &Node,
+    alloc: Global,
+    number: u64,
+    command: &Command,
+) -> Result<Prepared, OutOfMemory>
+    ensures { (known : List ℕ) → Shows node.now known → IfOk result (λ p. Plans (seen node.now known) p (on_command_of (seen node.now known) number command.now)) }
+{
+    let wait = Wait::Add { number };
+    match command {
+        Command::Join { via } => on_join(node, alloc, number, *via),
+        Command::GiveUp => on_give_up(node, alloc, number),
+        Command::Lookup { key } => on_lookup(node, alloc, wait, node.me, number, *key, 0),
+        Command::Insert {
+            file,
+            copies,
+            bytes,
+        } => on_insert(node, alloc, wait, node.me, number, 0, file, *copies, bytes),
+        Command::Fetch { file } => on_fetch(node, alloc, wait, node.me, number, 0, file),
+        Command::Reclaim { file } => on_reclaim(node, alloc, wait, node.me, number, 0, file),
+    }
+}
+
+/// What the step at this input sends, notes and changes. Nothing changes yet.
+pub(crate) fn plan(node: &Node, alloc: Global, input: &Input) -> Result<Prepared, OutOfMemory>
+    ensures { (known : List ℕ) → Shows node.now known → IfOk result (λ p. Plans (seen node.now known) p (step_of (seen node.now known) (plain_input input.now))) }
+{
+    match input {
+        Input::Command { number, command } => on_command(node, alloc, *number, command),
+        Input::Message { sender, message } => on_message(node, alloc, *sender, message),
+        Input::Noise => Ok(quietly(alloc, Change::nothing())),
+    }
+}

@@ -1,0 +1,216 @@
+//! Inserts.
+
+ghost use Rattle.std.specs.Prelude.{◌≡◌, [], true, IfOk, IfErr, List, ℕ};
+ghost use Rattle.ring_math.specs.declared.file.Held.{Held};
+ghost use Rattle.ring_math.specs.Files.{slot_of};
+ghost use Rattle.wire_msg.specs.Words.{Replicate};
+ghost use Rattle.file_store.specs.Answers.{put_of};
+ghost use Rattle.overlay_rules.specs.State.{State};
+ghost use Rattle.overlay_rules.specs.Outcome.{becomes, before, to_each};
+ghost use Rattle.overlay_rules.specs.Roots.{on_insert as on_insert_of, inserted, with_ask};
+ghost use Rattle.past_core.specs.Inserts.{said, accepted_note, files_where, pending_of, with_added};
+ghost use Rattle.node_parts.specs.Change.{waited, files_after};
+ghost use Rattle.node_parts.specs.Plans.{Plans};
+ghost use Rattle.node_core.specs.Rows.{IsRow};
+ghost use Rattle.node_core.specs.Replies.{IsReply};
+
+use crate::files::refused::{busy, not_ready};
+use file_store::Put;
+use node_parts::{
+    Change, Node, PastChange, Prepared, StoreChange, Wait, one_more, replied_after, send_to_each,
+    sending,
+};
+use overlay_rules::{Asked, Pending, Way};
+use past_core::{InsertWhat, what_insert};
+use ring_math::{Bytes, FileId, Id, Ids, OutOfMemory, key_of};
+use std::alloc::Global;
+use wire_msg::{Copies, Message, Note, Notes, Reply, Sends};
+
+/// What an accepted file makes of the files.
+fn store_where(
+    alloc: Global,
+    accepted: bool,
+    file: &FileId,
+    bytes: &Bytes,
+) -> Result<StoreChange, OutOfMemory>
+    ensures { (files : List Held) → (accepted ≡ true → put_of files file.now bytes.now ≡ Put.New) →
+        IfOk result (λ store. files_after store files ≡ files_where accepted files file.now bytes.now) }
+{
+    if !accepted {
+        return Ok(StoreChange::Keep);
+    }
+    let bytes = bytes.copy(alloc)?;
+    Ok(StoreChange::Set {
+        file: *file,
+        slot: Some(bytes),
+    })
+}
+
+/// What is noted of an accepted file.
+fn notes_where(
+    alloc: Global,
+    accepted: bool,
+    file: &FileId,
+    bytes: &Bytes,
+) -> Result<Notes, OutOfMemory>
+    ensures { IfOk result (λ notes. notes ≡ accepted_note accepted file.now bytes.now) }
+{
+    let mut notes = Notes::new(alloc);
+    if accepted {
+        let bytes = bytes.copy(alloc)?;
+        notes.push(Note::Accepted { file: *file, bytes })?;
+    }
+    Ok(notes)
+}
+
+/// Replicas are asked for, and the insert waits for them.
+fn replicating(
+    alloc: Global,
+    notes: Notes,
+    store: StoreChange,
+    wait: Wait,
+    origin: Id,
+    number: u64,
+    file: &FileId,
+    bytes: &Bytes,
+    targets: Ids,
+) -> Result<Prepared, OutOfMemory>
+    ensures { (s : State) → IfOk result (λ p. Plans s p (before [] notes (becomes
+        (record (waited wait s) {
+          files = files_after store s.files;
+          pending = with_ask s.pending
+              (record { origin = origin; number = number; file = file.now; targets = targets; awaited = targets });
+        })
+        (to_each targets (Replicate origin number file.now bytes.now)) []))) }
+{
+    let message = Message::Replicate {
+        origin,
+        number,
+        file: *file,
+        bytes: bytes.copy(alloc)?,
+    };
+    let mut messages = Sends::new(alloc);
+    send_to_each(alloc, &mut messages, targets.as_slice(), &message)?;
+    let awaited = targets.copy(alloc)?;
+    let pending = Pending {
+        origin,
+        number,
+        file: *file,
+        targets,
+        awaited,
+    };
+    Ok(Prepared {
+        messages,
+        notes,
+        change: Change::files(store, PastChange::Add(pending), wait),
+    })
+}
+
+/// The reply, where it is known at once.
+fn reply_of(me: Id, what: InsertWhat) -> Result<Reply, Ids>
+    ensures reply { IfOk result (λ reply. IsReply me what reply) }
+    ensures targets { IfErr result (λ targets. what ≡ InsertWhat.Replicate targets) }
+{
+    Ok(match what {
+        InsertWhat::Gone => Reply::Gone { node: me },
+        InsertWhat::Collision => Reply::Collision { node: me },
+        InsertWhat::TooFew { known } => Reply::TooFew { node: me, known },
+        InsertWhat::Full => Reply::Full { node: me },
+        InsertWhat::Stored { holders } => Reply::Stored { holders },
+        InsertWhat::Replicate { targets } => return Err(targets),
+    })
+}
+
+/// The node is the root of the file: the insert is replied, or replicas are asked for.
+fn insert_here(
+    node: &Node,
+    alloc: Global,
+    wait: Wait,
+    origin: Id,
+    number: u64,
+    file: &FileId,
+    copies: Copies,
+    bytes: &Bytes,
+) -> Result<Prepared, OutOfMemory>
+    ensures { IsRow node.now wait (λ s. inserted s origin number file.now copies bytes.now (slot_of s.files file.now)) result }
+{
+    let step = what_insert(alloc, &node.store, node.known.leafs(), file, copies, bytes)?;
+    let store = store_where(alloc, step.accepted, file, bytes)?;
+    let notes = notes_where(alloc, step.accepted, file, bytes)?;
+    answered(
+        alloc, node.me, notes, store, wait, origin, number, file, bytes, step.what,
+    )
+}
+
+/// What was found is said, after these notes.
+fn answered(
+    alloc: Global,
+    me: Id,
+    notes: Notes,
+    store: StoreChange,
+    wait: Wait,
+    origin: Id,
+    number: u64,
+    file: &FileId,
+    bytes: &Bytes,
+    what: InsertWhat,
+) -> Result<Prepared, OutOfMemory>
+    ensures { (s : State) → s.me ≡ me → IfOk result (λ p. Plans s p (before [] notes (said
+        (record (waited wait s) { files = files_after store s.files; pending = with_added s.pending (pending_of origin number file.now what) })
+        origin number file.now bytes.now what))) }
+{
+    match reply_of(me, what) {
+        Ok(reply) => {
+            let first = Prepared {
+                messages: Sends::new(alloc),
+                notes,
+                change: Change::files(store, PastChange::Keep, wait),
+            };
+            replied_after(alloc, first, Asked::Insert, origin, number, reply)
+        }
+        Err(targets) => replicating(
+            alloc, notes, store, wait, origin, number, file, bytes, targets,
+        ),
+    }
+}
+
+/// The row of an insert.
+pub(crate) fn on_insert(
+    node: &Node,
+    alloc: Global,
+    wait: Wait,
+    origin: Id,
+    number: u64,
+    hops: u16,
+    file: &FileId,
+    copies: Copies,
+    bytes: &Bytes,
+) -> Result<Prepared, OutOfMemory>
+    ensures { IsRow node.now wait (λ s. on_insert_of s origin number hops file.now copies bytes.now) result }
+{
+    let change = Change::waits(wait);
+    match node.way(key_of(file)) {
+        Way::NotReady => not_ready(alloc, change, Asked::Insert, origin, number, node.me),
+        Way::Here => insert_here(node, alloc, wait, origin, number, file, copies, bytes),
+        Way::Gap { joiner } => busy(
+            alloc,
+            change,
+            Asked::Insert,
+            origin,
+            number,
+            node.me,
+            joiner,
+        ),
+        Way::To { node: next } => {
+            let message = Message::Insert {
+                origin,
+                number,
+                hops: one_more(hops),
+                file: *file,
+                copies,
+                bytes: bytes.copy(alloc)?,
+            };
+            sending(alloc, change, next, message)
+        }
+    }
+}

@@ -1,0 +1,150 @@
+//! What a lease hands over: the lists of the joiner's gap, and its files.
+
+ghost use Rattle.std.specs.Prelude.{◌≡◌, ◌++◌, IfOk, OnOk, List, ℕ};
+ghost use Rattle.coverage.specs.GapFiles.{lists_in_gap as lists_in_gap_of};
+ghost use Rattle.overlay_rules.specs.Gates.{gate_on, is_older};
+ghost use Rattle.overlay_rules.specs.Gatekeeper.{handovers, granted as granted_of, opened, cleared, unless_lease};
+ghost use Rattle.node_parts.specs.Change.{gate_after};
+ghost use Rattle.node_parts.specs.Seen.{seen};
+ghost use Rattle.node_parts.specs.Plans.{Plans};
+
+use crate::files::ended::reply_each;
+use crate::joins::gates::without_older;
+use coverage::Reach;
+use file_store::FileStore;
+use gate_core::Gate;
+use node_parts::{
+    Change, GateChange, Learn, Lease, Lists, Node, PastChange, Prepared, SeatChange, StoreChange,
+    Wait,
+};
+use replica_handover::{in_gap, tombs_in_gap};
+use ring_math::{FileId, Id, OutOfMemory};
+use std::alloc::Global;
+use wire_msg::{Message, Notes, Outgoing, Reply, Sends};
+
+/// Hands over each of these files that has bytes, in order.
+fn hand_over(
+    alloc: Global,
+    messages: &mut Sends,
+    store: &FileStore,
+    to: Id,
+    manifest: &[FileId],
+) -> Result<(), OutOfMemory>
+    ensures { OnOk result (messages.new ≡ messages.old ++ handovers to store.now.files manifest.now) }
+{
+    for file in manifest {
+        if let Some(Some(bytes)) = store.slot(file) {
+            let message = Message::Handover {
+                file: *file,
+                bytes: bytes.copy(alloc)?,
+            };
+            messages.push(Outgoing {
+                receiver: to,
+                message,
+            })?;
+        }
+    }
+    Ok(())
+}
+
+/// The Grant with these lists, and the files that go with it.
+pub(crate) fn granted(
+    alloc: Global,
+    store: &FileStore,
+    to: Id,
+    attempt: u32,
+    lists: &Lists,
+) -> Result<Sends, OutOfMemory>
+    ensures { IfOk result (λ messages. messages ≡ granted_of to attempt lists.now store.now.files) }
+{
+    let mut messages = Sends::new(alloc);
+    let message = Message::Grant {
+        attempt,
+        manifest: lists.manifest.copy(alloc)?,
+        tombs: lists.tombs.copy(alloc)?,
+    };
+    messages.push(Outgoing {
+        receiver: to,
+        message,
+    })?;
+    hand_over(alloc, &mut messages, store, to, lists.manifest.as_slice())?;
+    Ok(messages)
+}
+
+/// The lists of the joiner's gap.
+fn lists_in_gap(
+    alloc: Global,
+    store: &FileStore,
+    reach: &Reach,
+    joiner: Id,
+) -> Result<Lists, OutOfMemory>
+    ensures { IfOk result (λ lists. lists ≡ lists_in_gap_of reach.now joiner store.now.files) }
+{
+    let manifest = in_gap(alloc, store, reach, joiner)?;
+    let tombs = tombs_in_gap(alloc, store, reach, joiner)?;
+    Ok(Lists { manifest, tombs })
+}
+
+/// The gate of a side: a new one where the side is asked for, else what is left of the old one.
+fn set_gate(
+    alloc: Global,
+    asked: bool,
+    gate: &Gate,
+    lists: &Lists,
+    held: &Option<Lease>,
+) -> Result<GateChange, OutOfMemory>
+    ensures { IfOk result (λ change. gate_after change held.now ≡
+        gate_on asked (record { gate = gate.now; lists = lists.now }) (unless_lease (is_older gate.now.joiner gate.now.attempt) held.now)) }
+{
+    if asked {
+        Ok(GateChange::Set(Lease {
+            gate: *gate,
+            lists: lists.copy(alloc)?,
+        }))
+    } else {
+        Ok(without_older(held, gate.joiner, gate.attempt))
+    }
+}
+
+/// The gates are opened, with the lists of the joiner's gap; then the inserts that wait there are over.
+pub(crate) fn open(
+    node: &Node,
+    alloc: Global,
+    reach: &Reach,
+    gate: &Gate,
+) -> Result<Prepared, OutOfMemory>
+    ensures { (known : List ℕ) → IfOk result (λ p. Plans (seen node.now known) p
+        (opened (cleared (seen node.now known) gate.now.joiner gate.now.attempt) reach.now gate.now.joiner gate.now.attempt gate.now.left gate.now.right
+        (lists_in_gap_of reach.now gate.now.joiner node.now.store.files))) }
+{
+    let lists = lists_in_gap(alloc, &node.store, reach, gate.joiner)?;
+    let asks = node.past.in_gap(alloc, reach, gate.joiner)?;
+    let mut messages = granted(alloc, &node.store, gate.joiner, gate.attempt, &lists)?;
+    let mut notes = Notes::new(alloc);
+    let busy = Reply::Busy {
+        node: node.me,
+        joiner: gate.joiner,
+    };
+    reply_each(alloc, &asks, &busy, &mut messages, &mut notes)?;
+    let on_left = node.me == gate.right;
+    let left_gate = set_gate(alloc, on_left, gate, &lists, &node.left_gate)?;
+    let on_right = node.me == gate.left;
+    let right_gate = set_gate(alloc, on_right, gate, &lists, &node.right_gate)?;
+    let change = Change {
+        seat: SeatChange::Keep,
+        left_gate,
+        right_gate,
+        learn: Learn::Nothing,
+        store: StoreChange::Keep,
+        past: PastChange::Leave {
+            reach: *reach,
+            joiner: gate.joiner,
+        },
+        waiting: Wait::Keep,
+    };
+    Ok(Prepared {
+        messages,
+        notes,
+        change,
+    })
+}

@@ -1,0 +1,133 @@
+//! A joiner learns who its neighbours are: the answer to its request, probes, and the answers to them.
+
+ghost use Rattle.std.specs.Prelude.{◌≡◌, IfOk, List, ℕ};
+ghost use Rattle.overlay_rules.specs.State.{State};
+ghost use Rattle.overlay_rules.specs.Joining.{on_join_reply as on_join_reply_of, on_probe_reply as on_probe_reply_of};
+ghost use Rattle.overlay_rules.specs.Gatekeeper.{on_probe as on_probe_of};
+ghost use Rattle.node_parts.specs.Seen.{seen, Shows};
+ghost use Rattle.node_parts.specs.Plans.{Plans};
+ghost use Rattle.node_core.specs.Asked.{probes_sent, leases_asked};
+
+use join_core::{Joiner, ProbeStep};
+use node_parts::{
+    Change, Learn, Node, Prepared, SeatChange, first_left, first_right, leaves_of, quietly,
+    send_to_each, sending, sent_to_both,
+};
+use ring_math::{Id, Ids, OutOfMemory};
+use std::alloc::Global;
+use wire_msg::{Message, Notes, Sends};
+
+/// A Probe: a ready node tells of itself and its leaves.
+pub(crate) fn on_probe(
+    node: &Node,
+    alloc: Global,
+    from: Id,
+    attempt: u32,
+) -> Result<Prepared, OutOfMemory>
+    ensures { (known : List ℕ) → Shows node.now known → IfOk result (λ p. Plans (seen node.now known) p (on_probe_of (seen node.now known) from attempt)) }
+{
+    if !node.seat.is_ready() {
+        return Ok(quietly(alloc, Change::nothing()));
+    }
+    let members = node.members(alloc)?;
+    sending(
+        alloc,
+        Change::nothing(),
+        from,
+        Message::ProbeReply { attempt, members },
+    )
+}
+
+/// A JoinReply: each leaf is probed, once the members were learnt.
+pub(crate) fn on_join_reply(
+    node: &Node,
+    alloc: Global,
+    attempt: u32,
+    members: &Ids,
+) -> Result<Prepared, OutOfMemory>
+    ensures { (known : List ℕ) → Shows node.now known → IfOk result (λ p. Plans (seen node.now known) p (on_join_reply_of (seen node.now known) attempt members.now)) }
+{
+    let leafs = node.leafs_after(members.as_slice());
+    let leaves = leaves_of(alloc, &leafs)?;
+    let mut joiner = node.seat.joiner().copy(alloc)?;
+    let answer = joiner.on_reply(alloc, attempt, &leaves)?;
+    match answer {
+        Some(probes) => probing(alloc, joiner, members, probes.as_slice()),
+        None => Ok(quietly(alloc, Change::nothing())),
+    }
+}
+
+/// The joiner goes on to this, these members are learnt, and these are probed.
+fn probing(
+    alloc: Global,
+    joiner: Joiner,
+    members: &Ids,
+    probes: &[Id],
+) -> Result<Prepared, OutOfMemory>
+    ensures { (s : State) → IfOk result (λ p. Plans s p (probes_sent s joiner members.now probes.now)) }
+{
+    let mut messages = Sends::new(alloc);
+    let probe = Message::Probe {
+        attempt: joiner.attempt(),
+    };
+    send_to_each(alloc, &mut messages, probes, &probe)?;
+    let learnt = members.copy(alloc)?;
+    Ok(Prepared {
+        messages,
+        notes: Notes::new(alloc),
+        change: Change::seats(SeatChange::To(joiner), Learn::All(learnt)),
+    })
+}
+
+/// A ProbeReply: the members are learnt, and new leaves are probed; once each has answered, both neighbours are asked for
+/// their leases.
+pub(crate) fn on_probe_reply(
+    node: &Node,
+    alloc: Global,
+    from: Id,
+    attempt: u32,
+    members: &Ids,
+) -> Result<Prepared, OutOfMemory>
+    ensures { (known : List ℕ) → Shows node.now known → IfOk result (λ p. Plans (seen node.now known) p (on_probe_reply_of (seen node.now known) from attempt members.now)) }
+{
+    let leafs = node.leafs_after(members.as_slice());
+    let leaves = leaves_of(alloc, &leafs)?;
+    let left = first_left(&leafs);
+    let right = first_right(&leafs);
+    let mut joiner = node.seat.joiner().copy(alloc)?;
+    let answer = joiner.on_probe_reply(alloc, from, attempt, &leaves, left, right)?;
+    match answer {
+        ProbeStep::Probe { more } => probing(alloc, joiner, members, more.as_slice()),
+        ProbeStep::Lease {
+            attempt,
+            left,
+            right,
+        } => leasing(alloc, joiner, members, attempt, left, right),
+        ProbeStep::Dropped => Ok(quietly(alloc, Change::nothing())),
+    }
+}
+
+/// The joiner goes on to this, these members are learnt, and these two are asked for their leases.
+fn leasing(
+    alloc: Global,
+    joiner: Joiner,
+    members: &Ids,
+    attempt: u32,
+    left: Id,
+    right: Id,
+) -> Result<Prepared, OutOfMemory>
+    ensures { (s : State) → IfOk result (λ p. Plans s p (leases_asked s joiner members.now attempt left right)) }
+{
+    let request = Message::LeaseRequest {
+        attempt,
+        left,
+        right,
+    };
+    let messages = sent_to_both(alloc, left, right, &request)?;
+    let learnt = members.copy(alloc)?;
+    Ok(Prepared {
+        messages,
+        notes: Notes::new(alloc),
+        change: Change::seats(SeatChange::To(joiner), Learn::All(learnt)),
+    })
+}
