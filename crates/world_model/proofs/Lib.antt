@@ -1,0 +1,4 @@
+pub mod OneNode
+pub mod Finding
+pub mod Listing
+pub mod MoreEvents

@@ -1,0 +1,172 @@
+//! The nodes of a world, each to be found by its identifier. All that this crate asks of node_core is asked here.
+
+ghost use Rattle.std.specs.Prelude.{◌≡◌, ◌==◌, ◌<◌, ℕ, true, IfOk, Contains, length, slice_index, vec_len};
+ghost use Rattle.coverage.specs.declared.Hop.{Hop as PlainHop};
+ghost use Rattle.overlay_rules.specs.State.{State, start};
+ghost use Rattle.overlay_rules.specs.Step.{step};
+ghost use Rattle.overlay_rules.specs.Record.{IsSetting, all_differ, world_at_start, state_at};
+ghost use Rattle.node_parts.specs.Change.{changed};
+ghost use Rattle.node_parts.specs.Plans.{Plans};
+ghost use Rattle.node_parts.specs.Seen.{Stands};
+ghost use Rattle.node_parts.specs.Sound.{IsSound};
+ghost use Rattle.node_parts.specs.Views.{hop_of};
+ghost use Rattle.node_core.specs.Inputs.{plain_input};
+ghost use Rattle.world_model.specs.Cells.{AllStand, AreDifferent, Finds, FitsAt, ids_of, id_at};
+
+use coverage::Hop;
+use node_core::{Change, Input, Node, Prepared};
+use ring_math::{Id, OutOfMemory};
+use std::alloc::Global;
+use std::collections::BTreeMap;
+use std::marker::Model;
+
+/// Nodes with different identifiers, in the order of their setting.
+#[derive(Drop)]
+pub(crate) struct Cells {
+    nodes: Vec<Node>,
+    /// The place of each identifier.
+    places: BTreeMap<u128, usize>,
+}
+
+impl Model for Cells {
+    ghost use Rattle.std.specs.Prelude.{List};
+    ghost use Rattle.node_parts.specs.declared.node.Node.{Node};
+    ghost use Rattle.world_model.specs.Cells.{Finds, ids_of};
+
+    ghost Value = { List Node };
+
+    ghost view = { λ a. a.nodes.items };
+
+    ghost invariant = { λ a. Finds a.places (ids_of a.nodes.items) };
+}
+
+impl Cells {
+    /// The nodes as they begin: the founder is ready, the others are to join.
+    pub(crate) fn new(alloc: Global, ids: &[Id], founder: Id) -> Result<Cells, OutOfMemory>
+        requires { IsSetting (record { nodes = ids.now; founder = founder }) }
+        ensures ids { IfOk result (λ nodes. ids_of nodes ≡ ids.now) }
+        ensures stand { IfOk result (λ nodes. AllStand nodes (world_at_start (record { nodes = ids.now; founder = founder })).states) }
+    {
+        let nodes = nodes_of(alloc, ids, founder)?;
+        let places = places_of(alloc, ids)?;
+        Ok(Cells { nodes, places })
+    }
+
+    /// Where the node of an identifier stands.
+    pub(crate) fn place(&self, id: Id) -> usize
+        requires { Contains (ids_of self.now) id }
+        ensures within { result < length (ids_of self.now) }
+        ensures id { slice_index (ids_of self.now) result ≡ id }
+    {
+        *self.places.get(&id.0).unwrap()
+    }
+
+    /// The identifier of the node at a place.
+    pub(crate) fn id(&self, place: usize) -> Id
+        requires { place < length (ids_of self.now) }
+        ensures { result ≡ id_at self.now place }
+    {
+        let node = &self.nodes[place];
+        node.id()
+    }
+
+    /// The next hop of a key at a node, None exactly where it is not ready.
+    pub(crate) fn next_hop(&self, place: usize, key: Id) -> Option<Hop>
+        requires { place < length (ids_of self.now) }
+        ensures { (states : ℕ → State) → AllStand self.now states → result ≡ hop_of (states (id_at self.now place)) key }
+    {
+        let node = &self.nodes[place];
+        node.next_hop(key)
+    }
+
+    /// All of a step that can be refused. The nodes stand for what they stood for.
+    pub(crate) fn prepare(
+        &mut self,
+        place: usize,
+        alloc: Global,
+        input: &Input,
+    ) -> Result<Prepared, OutOfMemory>
+        requires { place < length (ids_of self.old) }
+        ensures ids { ids_of self.new ≡ ids_of self.old }
+        ensures stand { (states : ℕ → State) → AllStand self.old states → AllStand self.new states }
+        ensures fits { IfOk result (λ p. FitsAt self.new place p.change) }
+        ensures plans { (states : ℕ → State) → AllStand self.old states → IfOk result (λ p. Plans (states (id_at self.old place)) p (step (states (id_at self.old place)) (plain_input input.now))) }
+        ensures sound { (states : ℕ → State) → AllStand self.old states → IsSound (step (states (id_at self.old place)) (plain_input input.now)).state }
+    {
+        prepare_at(&mut self.nodes, place, alloc, input)
+    }
+
+    /// The change comes to pass, which takes no memory.
+    pub(crate) fn commit(&mut self, place: usize, change: Change)
+        requires within { place < length (ids_of self.old) }
+        requires fits { FitsAt self.old place change }
+        ensures ids { ids_of self.new ≡ ids_of self.old }
+        ensures stand { (states : ℕ → State) (t : State) → AllStand self.old states → changed change (states (id_at self.old place)) ≡ t → IsSound t → AllStand self.new (state_at states (id_at self.old place) t) }
+    {
+        commit_at(&mut self.nodes, place, change);
+    }
+}
+
+/// The nodes as they begin, in this order.
+fn nodes_of(alloc: Global, ids: &[Id], founder: Id) -> Result<Vec<Node>, OutOfMemory>
+    ensures ids { IfOk result (λ nodes. ids_of nodes.items ≡ ids.now) }
+    ensures stand { IfOk result (λ nodes. AllStand nodes.items (world_at_start (record { nodes = ids.now; founder = founder })).states) }
+{
+    let mut nodes = Vec::with_capacity(alloc, ids.len())?;
+    for id in ids {
+        nodes.push(node_of(alloc, *id, founder)?)?;
+    }
+    Ok(nodes)
+}
+
+fn node_of(alloc: Global, id: Id, founder: Id) -> Result<Node, OutOfMemory>
+    ensures me { IfOk result (λ node. node.me ≡ id) }
+    ensures stands { IfOk result (λ node. Stands node (start id (id == founder))) }
+{
+    if id == founder {
+        Node::founder(alloc, id)
+    } else {
+        Node::fresh(alloc, id)
+    }
+}
+
+/// The place of each identifier.
+fn places_of(alloc: Global, ids: &[Id]) -> Result<BTreeMap<u128, usize>, OutOfMemory>
+    requires { all_differ ids.now ≡ true }
+    ensures { IfOk result (λ places. Finds places ids.now) }
+{
+    let mut places = BTreeMap::new(alloc);
+    for place in 0..ids.len() {
+        let id = &ids[place];
+        places.insert(id.0, place)?;
+    }
+    Ok(places)
+}
+
+fn prepare_at(
+    nodes: &mut Vec<Node>,
+    place: usize,
+    alloc: Global,
+    input: &Input,
+) -> Result<Prepared, OutOfMemory>
+    requires { place < vec_len nodes.old }
+    ensures ids { ids_of nodes.new.items ≡ ids_of nodes.old.items }
+    ensures stand { (states : ℕ → State) → AllStand nodes.old.items states → AllStand nodes.new.items states }
+    ensures fits { IfOk result (λ p. FitsAt nodes.new.items place p.change) }
+    ensures plans { (states : ℕ → State) → AllStand nodes.old.items states → IfOk result (λ p. Plans (states (id_at nodes.old.items place)) p (step (states (id_at nodes.old.items place)) (plain_input input.now))) }
+    ensures sound { (states : ℕ → State) → AllStand nodes.old.items states → IsSound (step (states (id_at nodes.old.items place)) (plain_input input.now)).state }
+{
+    let node = &mut nodes[place];
+    node.prepare(alloc, input)
+}
+
+fn commit_at(nodes: &mut Vec<Node>, place: usize, change: Change)
+    requires within { place < vec_len nodes.old }
+    requires fits { FitsAt nodes.old.items place change }
+    requires different { AreDifferent nodes.old.items }
+    ensures ids { ids_of nodes.new.items ≡ ids_of nodes.old.items }
+    ensures stand { (states : ℕ → State) (t : State) → AllStand nodes.old.items states → changed change (states (id_at nodes.old.items place)) ≡ t → IsSound t → AllStand nodes.new.items (state_at states (id_at nodes.old.items place) t) }
+{
+    let node = &mut nodes[place];
+    node.commit(change);
+}
