@@ -1,0 +1,5 @@
+pub mod Deliveries
+pub mod Numbers
+pub mod Going
+pub mod Wholes
+pub mod Starting

@@ -1,0 +1,46 @@
+//! Playing a scenario: the one record that its actions give, one turn after another or as a whole.
+#![tactic(auto)]
+
+ghost use Rattle.std.specs.Prelude.{IfOk};
+ghost use Rattle.overlay_rules.specs.Record.{IsRecord};
+ghost use Rattle.schedule.specs.Schedule.{setting_of};
+ghost use Rattle.play_engine.specs.Progress.{IsWhole};
+
+mod player;
+
+use outside::{FreePass, Turnstile};
+use overlay_rules::Record;
+pub use player::Player;
+use ring_math::OutOfMemory;
+use scenario_reader::Scenario;
+use std::alloc::Global;
+
+/// The played record of a scenario. The only error is that memory was refused.
+pub fn play(alloc: Global, scenario: &Scenario) -> Result<Record, OutOfMemory>
+    ensures played { IfOk result (λ steps. IsWhole scenario.now steps.entries steps.skipped) }
+    ensures legal { IfOk result (λ steps. IsRecord (setting_of scenario.now) steps.entries) }
+{
+    play_past(alloc, scenario, &FreePass)
+}
+
+/// The played record of a scenario, whose turns, counted from 0, pass a turnstile as those of the node at place 0. The only
+/// error is that memory was refused.
+pub fn play_past<T: Turnstile>(
+    alloc: Global,
+    scenario: &Scenario,
+    turnstile: &T,
+) -> Result<Record, OutOfMemory>
+    ensures played { IfOk result (λ steps. IsWhole scenario.now steps.entries steps.skipped) }
+    ensures legal { IfOk result (λ steps. IsRecord (setting_of scenario.now) steps.entries) }
+{
+    let mut player = Player::new(alloc, scenario)?;
+    let mut turn: u64 = 0;
+    while player.advance(alloc, scenario)? {
+        turnstile.pass(0, turn);
+        turn = turn.wrapping_add(1);
+    }
+    Ok(player.finish())
+}
+
+#[cfg(test)]
+mod tests;
