@@ -1,5 +1,6 @@
 mod Closed
 mod Counted
 mod Found
+mod Joins
 mod Marks
 mod Steps

@@ -3,3 +3,4 @@ pub mod Deliveries
 pub mod Names
 pub mod Report
 pub mod Tally
+pub mod Texts

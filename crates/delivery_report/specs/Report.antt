@@ -4,11 +4,12 @@ use Rattle.std.specs.List.{list_any}
 use Rattle.wire_msg.specs.declared.note.Note.{Note}
 use Rattle.wire_msg.specs.declared.note.Note.TheVariants as note
 use Rattle.wire_msg.specs.declared.reply.Answer.{Answer}
+use Rattle.wire_msg.specs.declared.reply.Answer.TheVariants as answer
 use Rattle.overlay_rules.specs.declared.entry.Entry.{Entry}
-use Rattle.overlay_rules.specs.State.{is_ready}
-use Rattle.overlay_rules.specs.Record.{Setting, World, sent_in, run, world_at_start}
+use Rattle.overlay_rules.specs.Record.{Setting, sent_in, run, world_at_start}
 use Rattle.overlay_rules.specs.Played.{is_delivery_of}
 use Rattle.overlay_rules.specs.Table.{notes_in}
+use Rattle.ring_laws.specs.Hops.{ready_count}
 use Rattle.scenario_reader.specs.declared.node.NodeLine.{NodeLine}
 use Rattle.delivery_report.specs.declared.counts.Summary.{Summary}
 use Rattle.delivery_report.specs.Answers.{closing_text}
@@ -43,6 +44,14 @@ lines_from nodes n (closing ∷ closings) = command_line nodes n closing ++ line
 abbrev pub command_lines : List NodeLine → ℕ → List Entry → List ℕ
 command_lines nodes commands es = lines_from nodes 1 (closings_of commands es)
 
+abbrev pub is_joined : Answer → Bool
+is_joined (answer.Joined l r) = true
+is_joined (answer.Reply r) = false
+is_joined (answer.Denied node w) = false
+is_joined (answer.Stopped node reason) = false
+is_joined answer.GaveUp = false
+is_joined answer.NothingToGiveUp = false
+
 abbrev pub is_delivery : Note → Bool
 is_delivery (note.Delivered origin number key hops) = true
 is_delivery (note.Accepted file bytes) = false
@@ -56,8 +65,13 @@ undelivered_among es m zero = 0
 undelivered_among es m (suc count) =
     if list_any (λ e. is_delivery_of m e.event) es then undelivered_among es (suc m) count else suc (undelivered_among es (suc m) count)
 
-abbrev pub ready_count : Setting → World → ℕ
-ready_count g w = count_by (λ x. is_ready (w.states x).phase) g.nodes
+-- a node became ready: its join was closed
+abbrev pub is_joining_note : Note → Bool
+is_joining_note (note.Closed number a) = is_joined a
+is_joining_note (note.Accepted file bytes) = false
+is_joining_note (note.Delivered origin number key hops) = false
+is_joining_note (note.Answered origin number r) = false
+is_joining_note (note.Reclaimed file) = false
 
 -- what the summary counts in a record with so many skips, after which so many nodes are ready
 abbrev pub counts_of : List Entry → ℕ → ℕ → Summary

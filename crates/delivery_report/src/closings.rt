@@ -3,14 +3,29 @@
 ghost use Rattle.std.specs.Prelude.{◌≡◌, ◌++◌, ◌+◌, ◌<◌, ◌∷◌, [], ℕ, None, length, map, slice_index_or, IfOk, OnOk};
 ghost use Rattle.std.specs.Option.{option_or, option_copied};
 ghost use Rattle.delivery_report.specs.Report.{closing_of, closings_of, command_line, command_lines};
+ghost use Rattle.delivery_report.specs.Texts.{commands_of};
 
 use crate::answers::answer;
 use crate::names::Names;
 use crate::text::Text;
 use overlay_rules::Entry;
 use ring_math::OutOfMemory;
+use scenario_reader::{Scenario, What};
 use std::alloc::Global;
 use wire_msg::{Answer, Note};
+
+/// How many commands a scenario has.
+pub(crate) fn command_count(scenario: &Scenario) -> u64
+    ensures { result ≡ commands_of scenario.now }
+{
+    let mut count = 0;
+    for action in scenario.actions() {
+        if matches!(&action.what, What::Command { .. }) {
+            count += 1;
+        }
+    }
+    count
+}
 
 /// A line for each of so many commands, in the order of their numbers.
 pub(crate) fn command_lines(

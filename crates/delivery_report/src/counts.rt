@@ -1,17 +1,17 @@
 //! What the summary counts.
 
-ghost use Rattle.std.specs.Prelude.{◌≡◌, ◌++◌, ◌<◌, ◌||◌, ℕ, false, not, length, replicate, slice_index_or, count_by, IfOk, OnOk};
+ghost use Rattle.std.specs.Prelude.{◌≡◌, ◌+◌, ◌++◌, ◌<◌, ◌||◌, ℕ, false, not, length, replicate, slice_index_or, count_by, IfOk, OnOk};
 ghost use Rattle.std.specs.List.{list_any};
-ghost use Rattle.overlay_rules.specs.Record.{sent_in};
+ghost use Rattle.overlay_rules.specs.Record.{Setting, IsRecord, sent_in};
 ghost use Rattle.overlay_rules.specs.Played.{is_delivery_of};
 ghost use Rattle.overlay_rules.specs.Table.{notes_in};
-ghost use Rattle.delivery_report.specs.Report.{counts_of, is_delivery, summary_line};
+ghost use Rattle.delivery_report.specs.Report.{is_delivery, is_joining_note, summary_of, summary_line};
 
 use crate::text::Text;
 use overlay_rules::{Entry, Event, Record};
 use ring_math::OutOfMemory;
 use std::alloc::Global;
-use wire_msg::Note;
+use wire_msg::{Answer, Note};
 
 /// What the summary counts.
 #[derive(Clone, Copy)]
@@ -26,20 +26,20 @@ pub(crate) struct Summary {
     pub(crate) ready: u64,
 }
 
-/// Counts in a record, after which so many nodes are ready.
-pub(crate) fn counts_of(alloc: Global, steps: &Record, ready: u64) -> Result<Summary, OutOfMemory>
-    ensures { IfOk result (λ summary. summary ≡ counts_of steps.now.entries steps.now.skipped ready) }
+/// Counts in a record. The founder is ready from the start, and each other node from its joining on.
+pub(crate) fn summary_of(alloc: Global, steps: &Record) -> Result<Summary, OutOfMemory>
+    ensures { (g : Setting) → IsRecord g steps.now.entries → IfOk result (λ summary. summary ≡ summary_of g steps.now.entries steps.now.skipped) }
 {
     let entries = steps.entries.as_slice();
     let delivered = delivered_messages(alloc, entries)?;
-    let deliveries = count_deliveries(entries)?;
+    let noted = count_notes(entries)?;
     Ok(Summary {
         entries: entries.len() as u64,
         sent: delivered.len() as u64,
         undelivered: count_unset(&delivered),
-        deliveries,
+        deliveries: noted.deliveries,
         skipped: steps.skipped,
-        ready,
+        ready: noted.ready,
     })
 }
 
@@ -84,17 +84,29 @@ fn count_unset(marks: &[bool]) -> u64
     marks.iter().filter(|mark| !**mark).count() as u64
 }
 
-/// How many notes are deliveries.
-fn count_deliveries(entries: &[Entry]) -> Result<u64, OutOfMemory>
-    ensures { IfOk result (λ count. count ≡ count_by is_delivery (notes_in entries.now)) }
+/// What the summary counts among notes.
+#[derive(Clone, Copy)]
+struct Noted {
+    deliveries: u64,
+    ready: u64,
+}
+
+/// Counts the deliveries, and the nodes that are ready after all these notes: the founder is from the start.
+fn count_notes(entries: &[Entry]) -> Result<Noted, OutOfMemory>
+    ensures deliveries { IfOk result (λ noted. noted.deliveries ≡ count_by is_delivery (notes_in entries.now)) }
+    ensures ready { IfOk result (λ noted. noted.ready ≡ 1 + count_by is_joining_note (notes_in entries.now)) }
 {
-    let mut count: u64 = 0;
+    let mut deliveries: u64 = 0;
+    let mut ready: u64 = 1;
     for entry in entries {
+        let notes = entry.notes.as_slice();
         // No memory holds notes past the last number, but no type says so.
-        let more = deliveries_among(entry.notes.as_slice());
-        count = count.checked_add(more).ok_or(OutOfMemory)?;
+        deliveries = deliveries
+            .checked_add(deliveries_among(notes))
+            .ok_or(OutOfMemory)?;
+        ready = ready.checked_add(joinings_among(notes)).ok_or(OutOfMemory)?;
     }
-    Ok(count)
+    Ok(Noted { deliveries, ready })
 }
 
 fn deliveries_among(notes: &[Note]) -> u64
@@ -103,10 +115,28 @@ fn deliveries_among(notes: &[Note]) -> u64
     notes.iter().filter(|note| is_delivery(note)).count() as u64
 }
 
+fn joinings_among(notes: &[Note]) -> u64
+    ensures { result ≡ count_by is_joining_note notes.now }
+{
+    notes.iter().filter(|note| is_joining_note(note)).count() as u64
+}
+
 fn is_delivery(note: &Note) -> bool
     ensures { result ≡ is_delivery note.now }
 {
     matches!(note, Note::Delivered { .. })
+}
+
+fn is_joining_note(note: &Note) -> bool
+    ensures { result ≡ is_joining_note note.now }
+{
+    matches!(
+        note,
+        Note::Closed {
+            answer: Answer::Joined { .. },
+            ..
+        }
+    )
 }
 
 impl Summary {

@@ -1,10 +1,12 @@
 //! The report of a scenario and its record: how each command was closed, where each lookup was delivered, and a summary.
 #![tactic(auto)]
 
-ghost use Rattle.std.specs.Prelude.{◌≡◌, ◌++◌, IfOk, OnOk};
-ghost use Rattle.overlay_rules.specs.Record.{Setting, run, world_at_start};
-ghost use Rattle.delivery_report.specs.Report.{report_of, ready_count};
+ghost use Rattle.std.specs.Prelude.{◌≡◌, IfOk};
+ghost use Rattle.overlay_rules.specs.Record.{Setting, IsRecord};
+ghost use Rattle.schedule.specs.Schedule.{setting_of};
+ghost use Rattle.delivery_report.specs.Report.{report_of};
 ghost use Rattle.delivery_report.specs.Tally.{brief_of};
+ghost use Rattle.delivery_report.specs.Texts.{report_text, summary_text};
 
 mod answers;
 mod closings;
@@ -14,36 +16,52 @@ mod names;
 mod tally;
 mod text;
 
-use crate::closings::{closings_of, command_lines};
-use crate::counts::counts_of;
+use crate::closings::{closings_of, command_count, command_lines};
+use crate::counts::summary_of;
 use crate::deliveries::delivery_lines;
 use crate::names::Names;
 use crate::tally::tally_of;
 use crate::text::Text;
 use overlay_rules::Record;
 use ring_math::OutOfMemory;
-use scenario_reader::NodeLine;
+use scenario_reader::{NodeLine, Scenario};
 use std::alloc::Global;
 use wire_msg::Frame;
 
-/// The report of a record, in which so many commands were given and so many nodes are ready at the end.
+/// The report of a scenario and its record.
 ///
 /// It has a line for each command, in the order of their numbers from 1 on; a line for each delivery of a lookup, in
 /// the order of the record; and a summary line. Nodes are called by the names that the scenario gave them. The only
 /// error is that memory was refused.
-pub fn report_with(
+pub fn report(alloc: Global, scenario: &Scenario, steps: &Record) -> Result<Frame, OutOfMemory>
+    requires { IsRecord (setting_of scenario.now) steps.now.entries }
+    ensures { IfOk result (λ text. text ≡ report_text scenario.now steps.now) }
+{
+    report_of(alloc, scenario.nodes(), command_count(scenario), steps)
+}
+
+/// The summary line of a scenario's record, and the tally of the scenario's commands: how many were closed in which way.
+/// The only error is that memory was refused.
+pub fn summary(alloc: Global, scenario: &Scenario, steps: &Record) -> Result<Frame, OutOfMemory>
+    requires { IsRecord (setting_of scenario.now) steps.now.entries }
+    ensures { IfOk result (λ text. text ≡ summary_text scenario.now steps.now) }
+{
+    brief_of(alloc, command_count(scenario), steps)
+}
+
+/// The report of a record among these nodes, to which so many commands were given.
+fn report_of(
     alloc: Global,
     nodes: &[NodeLine],
     commands: u64,
     steps: &Record,
-    ready: u64,
 ) -> Result<Frame, OutOfMemory>
-    ensures { (g : Setting) → ready ≡ ready_count g (run (world_at_start g) steps.now.entries) →
+    ensures { (g : Setting) → IsRecord g steps.now.entries →
         IfOk result (λ text. text ≡ report_of nodes.now g commands steps.now.entries steps.now.skipped) }
 {
     let names = Names::of(alloc, nodes)?;
     let entries = steps.entries.as_slice();
-    let summary = counts_of(alloc, steps, ready)?;
+    let summary = summary_of(alloc, steps)?;
     let mut text = Text::new(alloc);
     command_lines(alloc, &mut text, &names, commands, entries)?;
     delivery_lines(alloc, &mut text, &names, entries)?;
@@ -51,18 +69,12 @@ pub fn report_with(
     Ok(text.into_frame())
 }
 
-/// The summary line of a record, in which so many commands were given and so many nodes are ready at the end, and the
-/// tally of its commands. The only error is that memory was refused.
-pub fn summary_with(
-    alloc: Global,
-    commands: u64,
-    steps: &Record,
-    ready: u64,
-) -> Result<Frame, OutOfMemory>
-    ensures { (g : Setting) → ready ≡ ready_count g (run (world_at_start g) steps.now.entries) →
+/// The summary line and the tally of a record in which so many commands were given.
+fn brief_of(alloc: Global, commands: u64, steps: &Record) -> Result<Frame, OutOfMemory>
+    ensures { (g : Setting) → IsRecord g steps.now.entries →
         IfOk result (λ text. text ≡ brief_of g commands steps.now.entries steps.now.skipped) }
 {
-    let summary = counts_of(alloc, steps, ready)?;
+    let summary = summary_of(alloc, steps)?;
     let closings = closings_of(alloc, commands, steps.entries.as_slice())?;
     let mut text = Text::new(alloc);
     summary.write(&mut text)?;

@@ -1,7 +1,11 @@
+ghost use Rattle.std.specs.Prelude.{IfOk};
+ghost use Rattle.overlay_rules.specs.Record.{IsSetting};
+ghost use Rattle.schedule.specs.Schedule.{setting_of};
+
 use super::*;
 use overlay_rules::{Entries, Entry, Event};
 use ring_math::{Bytes, FileId, Id, Ids};
-use scenario_reader::Name;
+use scenario_reader::{Name, read_scenario};
 use std::test::Fail;
 use wire_msg::{Answer, Command, Envelope, Envelopes, Message, Note, Notes, Own, Reply, Why};
 
@@ -97,7 +101,7 @@ fn least_run(alloc: Global) -> Result<Record, Fail> {
 fn the_least_run_is_reported(rt: HostRuntime) -> Result<(), Fail> {
     let nodes = nodes(rt.alloc())?;
     let steps = least_run(rt.alloc())?;
-    let text = report_with(rt.alloc(), &nodes, 1, &steps, 1)?;
+    let text = report_of(rt.alloc(), &nodes, 1, &steps)?;
     let expected = b"1 delivered by A hops 0
 delivery 1 of ff000000000000000000000000000000 by A hops 0
 summary entries 2 sent 1 undelivered 0 deliveries 1 skipped 0 ready 1
@@ -166,7 +170,7 @@ fn found(alloc: Global, bytes: &[u8]) -> Result<Reply, Fail> {
     Ok(Reply::Found { node: A, bytes })
 }
 
-/// The commands are closed in the reverse order of their numbers.
+/// The commands are closed in the reverse order of their numbers. One of them is a join, so two nodes are ready.
 fn record_of(alloc: Global, mut answers: Vec<Answer>) -> Result<Record, Fail> {
     let mut entries = Entries::new(alloc);
     while let Some(answer) = answers.pop() {
@@ -186,7 +190,7 @@ fn each_answer_is_printed(rt: HostRuntime) -> Result<(), Fail> {
     let nodes = nodes(rt.alloc())?;
     let answers = answers(rt.alloc())?;
     let steps = record_of(rt.alloc(), answers)?;
-    let text = report_with(rt.alloc(), &nodes, 22, &steps, 18446744073709551615)?;
+    let text = report_of(rt.alloc(), &nodes, 22, &steps)?;
     let expected = b"1 delivered by A hops 3
 2 stored at A B C_3
 3 found by A 616263
@@ -209,7 +213,7 @@ fn each_answer_is_printed(rt: HostRuntime) -> Result<(), Fail> {
 20 gave up
 21 nothing to give up
 22 unanswered
-summary entries 21 sent 0 undelivered 0 deliveries 0 skipped 0 ready 18446744073709551615
+summary entries 21 sent 0 undelivered 0 deliveries 0 skipped 0 ready 2
 ";
     assert_eq!(rt; text.as_slice(), expected.as_slice());
     Ok(())
@@ -243,12 +247,12 @@ fn deliveries(alloc: Global) -> Result<Record, Fail> {
 fn each_delivery_has_its_line(rt: HostRuntime) -> Result<(), Fail> {
     let nodes = nodes(rt.alloc())?;
     let steps = deliveries(rt.alloc())?;
-    let text = report_with(rt.alloc(), &nodes, 0, &steps, 2)?;
+    let text = report_of(rt.alloc(), &nodes, 0, &steps)?;
     let expected = b"delivery 1 of 20000000000000000000000000000000 by B hops 1
 delivery 1 of 20000000000000000000000000000000 by B hops 1
 delivery 3 of 0123456789abcdef0123456789abcdef by 0123456789abcdef0123456789abcdef hops 65535
 delivery 2 of 30000000000000000000000000000000 by C_3 hops 0
-summary entries 5 sent 3 undelivered 1 deliveries 4 skipped 7 ready 2
+summary entries 5 sent 3 undelivered 1 deliveries 4 skipped 7 ready 1
 ";
     assert_eq!(rt; text.as_slice(), expected.as_slice());
     Ok(())
@@ -258,9 +262,43 @@ summary entries 5 sent 3 undelivered 1 deliveries 4 skipped 7 ready 2
 fn the_summary_has_a_tally(rt: HostRuntime) -> Result<(), Fail> {
     let answers = answers(rt.alloc())?;
     let steps = record_of(rt.alloc(), answers)?;
-    let text = summary_with(rt.alloc(), 25, &steps, 3)?;
-    let expected = b"summary entries 21 sent 0 undelivered 0 deliveries 0 skipped 0 ready 3
+    let text = brief_of(rt.alloc(), 25, &steps)?;
+    let expected = b"summary entries 21 sent 0 undelivered 0 deliveries 0 skipped 0 ready 2
 tally joined 1 denied 6 stored 1 found 2 missing 1 unanswered 4 other 10
+";
+    assert_eq!(rt; text.as_slice(), expected.as_slice());
+    Ok(())
+}
+
+/// A scenario of one node, at which a key is looked up and nothing is delivered.
+fn alone(alloc: Global) -> Result<Scenario, Fail>
+    ensures { IfOk result (λ scenario. IsSetting (setting_of scenario)) }
+{
+    let input =
+        b"node A 10000000000000000000000000000000\nfirst A\nlookup A ff000000000000000000000000000000\nlookup A 0f000000000000000000000000000000\n";
+    let scenario = read_scenario(alloc, input)?;
+    if scenario.nodes().len() != 1 {
+        return Err("one node is declared")?;
+    }
+    Ok(scenario)
+}
+
+#[test]
+fn what_was_not_done_is_reported(rt: HostRuntime) -> Result<(), Fail> {
+    let scenario = alone(rt.alloc())?;
+    let steps = Record {
+        entries: Entries::new(rt.alloc()),
+        skipped: 3,
+    };
+    let text = report(rt.alloc(), &scenario, &steps)?;
+    let expected = b"1 unanswered
+2 unanswered
+summary entries 0 sent 0 undelivered 0 deliveries 0 skipped 3 ready 1
+";
+    assert_eq!(rt; text.as_slice(), expected.as_slice());
+    let text = summary(rt.alloc(), &scenario, &steps)?;
+    let expected = b"summary entries 0 sent 0 undelivered 0 deliveries 0 skipped 3 ready 1
+tally joined 0 denied 0 stored 0 found 0 missing 0 unanswered 2 other 0
 ";
     assert_eq!(rt; text.as_slice(), expected.as_slice());
     Ok(())

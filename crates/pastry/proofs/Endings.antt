@@ -1,23 +1,26 @@
--- How a run can end: by its causes, a scenario is played and what is none is refused.
-use Rattle.std.proofs.Common.{◌≡◌, ◌≢◌, ℕ, List, take, Option, Some, None, Result, Ok, Err, refl, subst, ap, sym, true, false, ◌∙◌, inl, inr, arith}
+-- How a run can end: by its causes, what a source has is answered, and a scenario that is made is played.
+use Rattle.std.proofs.Common.{◌≡◌, ◌≢◌, ℕ, List, take, Option, Some, None, IfSome, Result, Ok, Err, refl, subst, ap, ◌∙◌, inl, inr, arith}
 use Rattle.std.proofs.lemmas.List.{take_all}
 use Rattle.outside.specs.Rose.{Rose}
-use Rattle.overlay_rules.specs.declared.entry.Record.{Record}
 use Rattle.scenario_reader.specs.declared.fault.LineFault.{LineFault}
 use Rattle.scenario_reader.specs.Plain.{PlainScenario}
 use Rattle.scenario_reader.specs.Grammar.{scenario_of}
 use Rattle.scenario_reader.proofs.Sizes.{scenario-sized}
 use Rattle.pastry.specs.declared.outcome.TopFault.{TopFault}
 use Rattle.pastry.specs.declared.outcome.TopFault.TheVariants as fault
-use Rattle.pastry.specs.FirstPath.{is_first_path}
-use Rattle.pastry.specs.Top.{IsBeyond, IsRefused, IsScenario, HasPlayed, Appends, DoneOr}
+use Rattle.pastry.specs.Faults.{IsWritingFault}
+use Rattle.pastry.specs.Reading.{IsRefused, IsScenario}
+use Rattle.clap.specs.Walk.{Text}
+use Rattle.cli_words.specs.declared.mode.Mode.{Mode}
+use Rattle.pastry.specs.Asked.{AskFor, NamePlainly}
+use Rattle.pastry.specs.Runs.{DoneOr, IsAnswered, IsDue}
+use Rattle.pastry.proofs.Words.{named_is}
 
--- what the clauses of a run say of its fault
-pub record Causes (left left_after taken taken_after : Option (List ℕ)) (rose_source rose_sink : Type 0) (played : Option Record) (answered : Option TopFault) : Type 0 where
+-- what the clauses of a run in mode `play` say of its fault
+pub record Causes (left left_after : Option (List ℕ)) (rose_source rose_sink : Type 0) (answered : Option TopFault) : Type 0 where
   pub usage : answered ≢ Some fault.Usage
-  pub done : answered ≡ None → HasPlayed left left_after taken taken_after Appends played
+  pub done : answered ≡ None → (s : PlainScenario) × IsScenario left left_after s
   pub refused : (f : LineFault) → answered ≡ Some (fault.Scenario f) → IsRefused left left_after f
-  pub beyond : answered ≡ Some fault.NotPlayed → IsBeyond left left_after
   pub unread : answered ≡ Some fault.Read → rose_source
   pub unwritten : answered ≡ Some fault.Write → rose_sink
 
@@ -44,55 +47,53 @@ played_bytes xs (Some ys) (Some zs) s e r =
 whole : (xs : List ℕ) (s : PlainScenario) → scenario_of xs ≡ Ok s → take 90010001 xs ≡ xs
 whole xs s e = let size = scenario-sized xs s e in take_all 90010001 xs (omega arith)
 
-same_scenario : {s t : PlainScenario} {r : Result PlainScenario LineFault} → r ≡ Ok s → r ≡ Ok t → s ≡ t
-same_scenario e h = cc
-
--- a scenario that is played is not beyond those
-not_beyond : (xs : List ℕ) (left left_after : Option (List ℕ)) (s : PlainScenario) → left ≡ Some xs → scenario_of xs ≡ Ok s → is_first_path s ≡ true → IsBeyond left left_after → ⊥
-not_beyond xs left left_after s e is path beyond =
-    let same = same_scenario is (played_bytes xs left left_after beyond.scenario e beyond.read) in
-    let no_path : is_first_path s ≡ false = ap is_first_path same ∙ beyond.beyond in
-    let both : true ≡ false = sym path ∙ no_path in
-    cc
-
-pub is_complete : (left left_after taken taken_after : Option (List ℕ)) (rose_source rose_sink : Type 0) (played : Option Record) (answered : Option TopFault) →
-    Causes left left_after taken taken_after rose_source rose_sink played answered → (rose_source → ⊥) → (rose_sink → ⊥) →
-    (xs : List ℕ) (s : PlainScenario) → left ≡ Some xs → scenario_of xs ≡ Ok s → is_first_path s ≡ true → DoneOr answered None
-is_complete left left_after taken taken_after rose_source rose_sink played None c source sink xs s e is path = inl refl
-is_complete left left_after taken taken_after rose_source rose_sink played (Some fault.Usage) c source sink xs s e is path = absurd (c.usage refl)
-is_complete left left_after taken taken_after rose_source rose_sink played (Some (fault.Scenario f)) c source sink xs s e is path =
-    absurd (not_both (ap scenario_of (whole xs s is) ∙ is) (refused_bytes xs left left_after f e (c.refused f refl)))
-is_complete left left_after taken taken_after rose_source rose_sink played (Some fault.Read) c source sink xs s e is path = absurd (source (c.unread refl))
-is_complete left left_after taken taken_after rose_source rose_sink played (Some fault.Write) c source sink xs s e is path = absurd (sink (c.unwritten refl))
-is_complete left left_after taken taken_after rose_source rose_sink played (Some fault.OutOfMemory) c source sink xs s e is path = inr refl
-is_complete left left_after taken taken_after rose_source rose_sink played (Some fault.NotPlayed) c source sink xs s e is path =
-    absurd (not_beyond xs left left_after s e is path (c.beyond refl))
-
 same_fault : {f g : LineFault} {r : Result PlainScenario LineFault} → r ≡ Err f → r ≡ Err g → f ≡ g
 same_fault e h = cc
 
-pub refuses_all : (left left_after taken taken_after : Option (List ℕ)) (rose_source rose_sink : Type 0) (played : Option Record) (answered : Option TopFault) →
-    Causes left left_after taken taken_after rose_source rose_sink played answered → (rose_source → ⊥) → (rose_sink → ⊥) →
-    (xs : List ℕ) (f : LineFault) → left ≡ Some xs → scenario_of (take 90010001 xs) ≡ Err f → DoneOr answered (Some (fault.Scenario f))
-refuses_all left left_after taken taken_after rose_source rose_sink played None c source sink xs f e is =
-    let done = c.done refl in
-    let read : scenario_of xs ≡ Ok done.scenario = played_bytes xs left left_after done.scenario e done.read in
-    absurd (not_both (ap scenario_of (whole xs done.scenario read) ∙ read) is)
-refuses_all left left_after taken taken_after rose_source rose_sink played (Some fault.Usage) c source sink xs f e is = absurd (c.usage refl)
-refuses_all left left_after taken taken_after rose_source rose_sink played (Some (fault.Scenario g)) c source sink xs f e is =
-    inl (ap (λ (h : LineFault). Some (fault.Scenario h)) (same_fault (refused_bytes xs left left_after g e (c.refused g refl)) is))
-refuses_all left left_after taken taken_after rose_source rose_sink played (Some fault.Read) c source sink xs f e is = absurd (source (c.unread refl))
-refuses_all left left_after taken taken_after rose_source rose_sink played (Some fault.Write) c source sink xs f e is = absurd (sink (c.unwritten refl))
-refuses_all left left_after taken taken_after rose_source rose_sink played (Some fault.OutOfMemory) c source sink xs f e is = inr refl
-refuses_all left left_after taken taken_after rose_source rose_sink played (Some fault.NotPlayed) c source sink xs f e is =
-    let beyond = c.beyond refl in
-    let read : scenario_of xs ≡ Ok beyond.scenario = played_bytes xs left left_after beyond.scenario e beyond.read in
-    absurd (not_both (ap scenario_of (whole xs beyond.scenario read) ∙ read) is)
+module _ (left left_after : Option (List ℕ)) (rose_source rose_sink : Type 0) where
+  plays : (answered : Option TopFault) → Causes left left_after rose_source rose_sink answered → (rose_source → ⊥) → (rose_sink → ⊥) →
+      (xs : List ℕ) → left ≡ Some xs → (s : PlainScenario) → scenario_of xs ≡ Ok s → DoneOr answered None
+  plays None c source sink xs e s is = inl refl
+  plays (Some fault.Usage) c source sink xs e s is = absurd (c.usage refl)
+  plays (Some (fault.Scenario f)) c source sink xs e s is =
+      absurd (not_both (ap scenario_of (whole xs s is) ∙ is) (refused_bytes xs left left_after f e (c.refused f refl)))
+  plays (Some fault.Read) c source sink xs e s is = absurd (source (c.unread refl))
+  plays (Some fault.Write) c source sink xs e s is = absurd (sink (c.unwritten refl))
+  plays (Some fault.OutOfMemory) c source sink xs e s is = inr refl
+
+  refuses : (answered : Option TopFault) → Causes left left_after rose_source rose_sink answered → (rose_source → ⊥) → (rose_sink → ⊥) →
+      (xs : List ℕ) → left ≡ Some xs → (f : LineFault) → scenario_of (take 90010001 xs) ≡ Err f → DoneOr answered (Some (fault.Scenario f))
+  refuses None c source sink xs e f is =
+      let done = c.done refl in
+      let read : scenario_of xs ≡ Ok done.0 = played_bytes xs left left_after done.0 e done.1 in
+      absurd (not_both (ap scenario_of (whole xs done.0 read) ∙ read) is)
+  refuses (Some fault.Usage) c source sink xs e f is = absurd (c.usage refl)
+  refuses (Some (fault.Scenario g)) c source sink xs e f is =
+      inl (ap (λ (h : LineFault). Some (fault.Scenario h)) (same_fault (refused_bytes xs left left_after g e (c.refused g refl)) is))
+  refuses (Some fault.Read) c source sink xs e f is = absurd (source (c.unread refl))
+  refuses (Some fault.Write) c source sink xs e f is = absurd (sink (c.unwritten refl))
+  refuses (Some fault.OutOfMemory) c source sink xs e f is = inr refl
+
+  -- what a source has is answered
+  pub answers : (answered : Option TopFault) → Causes left left_after rose_source rose_sink answered → (rose_source → ⊥) → (rose_sink → ⊥) → IsAnswered left answered
+  answers answered c source sink xs e = (plays answered c source sink xs e, refuses answered c source sink xs e)
+
+-- where no sink fails, what is made is played
+pub big_is_done : (rose_sink : Type 0) (answered : Option TopFault) → IfSome answered IsWritingFault → (answered ≡ Some fault.Write → rose_sink) → (rose_sink → ⊥) → DoneOr answered None
+big_is_done rose_sink None kind unwritten sink = inl refl
+big_is_done rose_sink (Some fault.Usage) kind unwritten sink = absurd kind
+big_is_done rose_sink (Some (fault.Scenario f)) kind unwritten sink = absurd kind
+big_is_done rose_sink (Some fault.Read) kind unwritten sink = absurd kind
+big_is_done rose_sink (Some fault.Write) kind unwritten sink = absurd (sink (unwritten refl))
+big_is_done rose_sink (Some fault.OutOfMemory) kind unwritten sink = inr refl
 
 -- a count that stands at 0 does not rise
 pub steady_count : (before after : ℕ) → before ≡ 0 → after ≡ 0 → Rose before after → ⊥
 steady_count before after e f (inl lt) = omega arith
 steady_count before after e f (inr top) = omega arith
 
-pub no_usage : {x : Option TopFault} {f : LineFault} → x ≡ Some fault.Usage → x ≡ Some (fault.Scenario f) → ⊥
-no_usage e g = cc
+-- what is due in the mode that words ask for is due in the one that they name
+pub due_as_named : (rose_source rose_sink : Type 0) (left : Option (List ℕ)) (answered : Option TopFault) (words : List Text) (mode named : Mode) →
+    AskFor words mode → NamePlainly words named → IsDue mode rose_source rose_sink left answered → IsDue named rose_source rose_sink left answered
+due_as_named rose_source rose_sink left answered words mode named ask plain due =
+    subst (λ (m : Mode). IsDue m rose_source rose_sink left answered) (named_is words mode named ask plain) due

@@ -1,8 +1,6 @@
-pub mod SoloSteps
-pub mod SoloWorlds
-pub mod Settling
-pub mod Paths
-pub mod Acting
-pub mod Reading
-pub mod CommandLine
+pub mod ReadToEnd
+pub mod Accepted
+pub mod NodeRange
+pub mod Words
+pub mod Played
 pub mod Endings

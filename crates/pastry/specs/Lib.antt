@@ -1,5 +1,6 @@
-pub mod Solo
-pub mod Schedule
-pub mod Turns
-pub mod FirstPath
-pub mod Top
+pub mod Asked
+pub mod Faults
+pub mod Headline
+pub mod Prepared
+pub mod Reading
+pub mod Runs

@@ -1,7 +1,7 @@
 //! What a run of the program comes to.
 
 ghost use Rattle.std.specs.Prelude.{◌≡◌, Some, None};
-ghost use Rattle.pastry.specs.Top.{status_of};
+ghost use Rattle.pastry.specs.Faults.{status_of};
 
 use overlay_rules::Record;
 use scenario_reader::LineFault;
@@ -17,10 +17,8 @@ pub enum TopFault {
     Read,
     /// The output could not be written.
     Write,
-    /// Memory was refused. It may come in the place of any other answer but Usage.
+    /// Memory was refused. It may come in the place of any other answer.
     OutOfMemory,
-    /// The scenario has more than one node, or actions other than lookups and settles. Such scenarios are not played yet.
-    NotPlayed,
 }
 
 /// What a run came to.
@@ -44,7 +42,6 @@ impl TopFault {
             TopFault::Read => 4,
             TopFault::Write => 5,
             TopFault::OutOfMemory => 6,
-            TopFault::NotPlayed => 7,
         }
     }
 }

@@ -1,6 +1,6 @@
-//! The worked rows of one founder, over devices in memory.
+//! The least run over devices that fail at any call, and the modes that take no scenario, over devices in memory.
 
-ghost use Rattle.std.specs.Prelude.{◌<◌};
+ghost use Rattle.std.specs.Prelude.{◌<◌, length};
 
 use crate::top::top;
 use outside::{FreePass, MemorySink, MemorySource};
@@ -17,31 +17,31 @@ const LEAST_RUN: &[u8; 100] =
 const LEAST_REPORT: &[u8; 153] =
     b"1 delivered by A hops 0\ndelivery 1 of ff000000000000000000000000000000 by A hops 0\nsummary entries 2 sent 1 undelivered 0 deliveries 1 skipped 0 ready 1\n";
 
-/// How a run over devices in memory ended: its status, and what the sink took.
+/// How a run over devices in memory ended: its status, what the source has left, and what the sink took.
 #[derive(Drop)]
 struct Ended {
     status: u8,
+    left: Vec<u8>,
     taken: Vec<u8>,
 }
 
-fn play_words(alloc: Global) -> Result<Vec<RcStr>, AllocError> {
-    let mut words = Vec::new(alloc);
-    words.push(RcStr::from_str(alloc, "pastry")?)?;
-    words.push(RcStr::from_str(alloc, "play")?)?;
-    Ok(words)
-}
-
-/// Plays what the source has over these devices.
-fn played_over<R: Threads + Wait + Sync>(
+/// Runs the program with these words behind its name, over these devices.
+fn ran_over<R: Threads + Wait + Sync>(
     rt: &R,
     alloc: Global,
+    asked: &[&str],
     source: &mut MemorySource,
     sink: &mut MemorySink,
 ) -> Result<Ended, AllocError> {
-    let words = play_words(alloc)?;
+    let mut words = Vec::new(alloc);
+    words.push(RcStr::from_str(alloc, "pastry")?)?;
+    for word in asked {
+        words.push(RcStr::from_str(alloc, word)?)?;
+    }
     let outcome = top(rt, alloc, &words, source, sink, &FreePass);
     Ok(Ended {
         status: outcome.status,
+        left: source.left().to_vec(alloc)?,
         taken: sink.taken().to_vec(alloc)?,
     })
 }
@@ -57,7 +57,7 @@ fn from_source<R: Threads + Wait + Sync>(
 {
     let mut source = MemorySource::new(alloc, LEAST_RUN, per_call, &[fails]).map_err(refused)?;
     let mut sink = MemorySink::new(alloc, 1000, 1000, &[]).map_err(refused)?;
-    played_over(rt, alloc, &mut source, &mut sink)
+    ran_over(rt, alloc, &["play"], &mut source, &mut sink)
 }
 
 /// The least run into a sink that takes so many bytes a call and fails at a call.
@@ -71,7 +71,7 @@ fn into_sink<R: Threads + Wait + Sync>(
 {
     let mut source = MemorySource::new(alloc, LEAST_RUN, 1000, &[]).map_err(refused)?;
     let mut sink = MemorySink::new(alloc, 1000, per_call, &[fails]).map_err(refused)?;
-    played_over(rt, alloc, &mut source, &mut sink)
+    ran_over(rt, alloc, &["play"], &mut source, &mut sink)
 }
 
 fn refused(_refusal: OutOfMemory) -> AllocError {
@@ -111,19 +111,40 @@ fn a_sink_may_fail_at_any_call(rt: HostRuntime) -> Result<(), AllocError> {
     Ok(())
 }
 
-/// Scenarios beyond those that are played are read, and nothing is written of them.
+/// A run with these words over a source that is left as it is, since it has no scenario.
+fn without_scenario<R: Threads + Wait + Sync>(
+    rt: &R,
+    alloc: Global,
+    asked: &[&str],
+) -> Result<Ended, AllocError> {
+    let mut source = MemorySource::new(alloc, b"no scenario", 1000, &[]).map_err(refused)?;
+    let mut sink = MemorySink::new(alloc, 1000, 1000, &[]).map_err(refused)?;
+    ran_over(rt, alloc, asked, &mut source, &mut sink)
+}
+
+fn has(text: &[u8], part: &[u8]) -> bool
+    requires { 0 < length part.now }
+{
+    text.windows(part.len()).any(|window| window == part)
+}
+
+/// Of twelve nodes all are ready at the end, and each of the twenty files is stored and found.
 #[test]
-fn says_what_is_not_played(rt: HostRuntime) -> Result<(), AllocError> {
-    let beyond: [&[u8]; 2] = [
-        b"node A 10000000000000000000000000000000\nnode B -\nfirst A\n",
-        b"node A 10000000000000000000000000000000\nfirst A\ngiveup A\n",
-    ];
-    for input in beyond {
-        let mut source = MemorySource::new(rt.alloc(), input, 1000, &[]).map_err(refused)?;
-        let mut sink = MemorySink::new(rt.alloc(), 1000, 1000, &[]).map_err(refused)?;
-        let ended = played_over(&rt, rt.alloc(), &mut source, &mut sink)?;
-        assert_eq!(rt; ended.status, 7);
-        assert!(rt; ended.taken.is_empty());
-    }
+fn a_made_scenario_is_summed_up(rt: HostRuntime) -> Result<(), AllocError> {
+    let ended = without_scenario(&rt, rt.alloc(), &["big", "--nodes", "12", "--seed=7"])?;
+    assert_eq!(rt; ended.status, 0);
+    assert_eq!(rt; ended.left.as_slice(), b"no scenario".as_slice());
+    assert!(rt; ended.taken.starts_with(b"summary entries "));
+    assert!(rt; has(&ended.taken, b" ready 12\ntally joined "));
+    assert!(rt; has(&ended.taken, b" stored 20 found 20 "));
+    Ok(())
+}
+
+#[test]
+fn other_words_are_usage(rt: HostRuntime) -> Result<(), AllocError> {
+    let ended = without_scenario(&rt, rt.alloc(), &["big", "--nodes", "1"])?;
+    assert_eq!(rt; ended.status, 2);
+    assert_eq!(rt; ended.left.as_slice(), b"no scenario".as_slice());
+    assert!(rt; ended.taken.is_empty());
     Ok(())
 }

@@ -1,39 +1,109 @@
-use Rattle.pastry.proofs.Endings.{is_complete, refuses_all, steady_count, no_usage}
+use Rattle.std.proofs.Common.{inr}
+use Rattle.outside.specs.Sink.{BreaksOff}
+use Rattle.cli_words.specs.declared.mode.Mode.TheVariants.{Play, Big}
+use Rattle.pastry.specs.Runs.{Appends}
+use Rattle.pastry.proofs.Words.{AskFor-from_read, AreUsage-from_read, not_both_modes}
+use Rattle.pastry.proofs.NodeRange.{AskFor-in_range}
+use Rattle.pastry.proofs.Played.{HasRun-from_play, HasRun-from_big}
+use Rattle.pastry.proofs.Endings.{answers, big_is_done, due_as_named, steady_count}
 use Rattle.pastry.proofs.top.top.Goals as goal
 
-pub returns-then-are_play-clause-complete : goal.returns-then-are_play-clause-complete
-returns-then-are_play-clause-complete g c = λ words source sink xs s told is path.
-    is_complete _ _ _ _ _ _ _ _ (record {
+-- ---- play
+
+pub returns-in-Ok-Play-clause-done : goal.returns-in-Ok-Play-clause-done
+returns-in-Ok-Play-clause-done g c = λ e.
+    HasRun-from_play Appends _ _ _ _ g.S.Source.left _ _
+    (AskFor-from_read _ _ _ c.in-Ok-Play.field-0-is (record { reads = c.in-Ok-Play.ensures.reads; plain = c.in-Ok-Play.ensures.plain }))
+    (c.play_mode.ensures.done e)
+
+pub returns-in-Ok-Play-clause-broken_off : goal.returns-in-Ok-Play-clause-broken_off
+returns-in-Ok-Play-clause-broken_off g c = λ e.
+    HasRun-from_play BreaksOff _ _ _ _ g.S.Source.left _ _
+    (AskFor-from_read _ _ _ c.in-Ok-Play.field-0-is (record { reads = c.in-Ok-Play.ensures.reads; plain = c.in-Ok-Play.ensures.plain }))
+    (c.play_mode.ensures.broken_off e)
+
+pub returns-in-Ok-Play-clause-refused : goal.returns-in-Ok-Play-clause-refused
+returns-in-Ok-Play-clause-refused g c = λ f e.
+    (AskFor-from_read _ _ _ c.in-Ok-Play.field-0-is (record { reads = c.in-Ok-Play.ensures.reads; plain = c.in-Ok-Play.ensures.plain }), c.play_mode.ensures.refused f e)
+
+pub returns-in-Ok-Play-clause-unread : goal.returns-in-Ok-Play-clause-unread
+returns-in-Ok-Play-clause-unread g c = λ e.
+    (AskFor-from_read _ _ _ c.in-Ok-Play.field-0-is (record { reads = c.in-Ok-Play.ensures.reads; plain = c.in-Ok-Play.ensures.plain }), c.play_mode.ensures.unread e)
+
+pub returns-in-Ok-Play-clause-complete : goal.returns-in-Ok-Play-clause-complete
+returns-in-Ok-Play-clause-complete g c = inr (inr (
+  Play,
+  AskFor-from_read _ _ _ c.in-Ok-Play.field-0-is (record { reads = c.in-Ok-Play.ensures.reads; plain = c.in-Ok-Play.ensures.plain }),
+  λ source sink. answers _ _ _ _ _ (record {
+    usage = c.play_mode.ensures.usage;
+    done = λ e. let run = c.play_mode.ensures.done e in (run.scenario, run.from);
+    refused = c.play_mode.ensures.refused;
+    unread = c.play_mode.ensures.unread;
+    unwritten = c.play_mode.ensures.unwritten;
+  }) source sink,
+))
+
+pub returns-in-Ok-Play-clause-plain : goal.returns-in-Ok-Play-clause-plain
+returns-in-Ok-Play-clause-plain g c = λ mode named.
+    due_as_named _ _ _ _ _ Play mode
+    (AskFor-from_read _ _ _ c.in-Ok-Play.field-0-is (record { reads = c.in-Ok-Play.ensures.reads; plain = c.in-Ok-Play.ensures.plain })) named
+    (λ source sink. answers _ _ _ _ _ (record {
       usage = c.play_mode.ensures.usage;
-      done = c.play_mode.ensures.done;
+      done = λ e. let run = c.play_mode.ensures.done e in (run.scenario, run.from);
       refused = c.play_mode.ensures.refused;
-      beyond = c.play_mode.ensures.beyond;
       unread = c.play_mode.ensures.unread;
       unwritten = c.play_mode.ensures.unwritten;
-    }) source sink xs s told is path
+    }) source sink)
 
-pub returns-then-are_play-clause-refuses : goal.returns-then-are_play-clause-refuses
-returns-then-are_play-clause-refuses g c = λ words source sink xs f told is.
-    refuses_all _ _ _ _ _ _ _ _ (record {
+pub returns-in-Ok-Play-clause-steady : goal.returns-in-Ok-Play-clause-steady
+returns-in-Ok-Play-clause-steady g c = λ source sink mode named.
+    due_as_named ⊥ ⊥ _ _ _ Play mode
+    (AskFor-from_read _ _ _ c.in-Ok-Play.field-0-is (record { reads = c.in-Ok-Play.ensures.reads; plain = c.in-Ok-Play.ensures.plain })) named
+    (λ _ _. answers _ _ _ _ _ (record {
       usage = c.play_mode.ensures.usage;
-      done = c.play_mode.ensures.done;
+      done = λ e. let run = c.play_mode.ensures.done e in (run.scenario, run.from);
       refused = c.play_mode.ensures.refused;
-      beyond = c.play_mode.ensures.beyond;
       unread = c.play_mode.ensures.unread;
       unwritten = c.play_mode.ensures.unwritten;
-    }) source sink xs f told is
+    })
+    (steady_count _ _ (source c.args.source.now) (source c.play_mode.new.source))
+    (steady_count _ _ (sink c.args.sink.now) (sink c.play_mode.new.sink)))
 
-pub returns-then-are_play-clause-steady : goal.returns-then-are_play-clause-steady
-returns-then-are_play-clause-steady g c = λ source sink words xs s told is path.
-    is_complete _ _ _ _ _ _ _ _ (record {
-      usage = c.play_mode.ensures.usage;
-      done = c.play_mode.ensures.done;
-      refused = c.play_mode.ensures.refused;
-      beyond = c.play_mode.ensures.beyond;
-      unread = c.play_mode.ensures.unread;
-      unwritten = c.play_mode.ensures.unwritten;
-    }) (steady_count _ _ (source c.args.source.now) (source c.play_mode.new.source))
-    (steady_count _ _ (sink c.args.sink.now) (sink c.play_mode.new.sink)) xs s told is path
+pub returns-in-Ok-Play-clause-left_alone : goal.returns-in-Ok-Play-clause-left_alone
+returns-in-Ok-Play-clause-left_alone g c = λ nodes seed named.
+    absurd (not_both_modes _ nodes seed (AskFor-from_read _ _ _ c.in-Ok-Play.field-0-is (record { reads = c.in-Ok-Play.ensures.reads; plain = c.in-Ok-Play.ensures.plain })) named)
 
-pub returns-else-are_play-clause-refused : goal.returns-else-are_play-clause-refused
-returns-else-are_play-clause-refused g c = λ f e. absurd (no_usage c.refused.ensures.fault e)
+-- ---- big
+
+pub big_mode-requires-clause-some : goal.big_mode-requires-clause-some
+big_mode-requires-clause-some g c =
+    (AskFor-in_range _ _ c.in-Ok-Big.seed (AskFor-from_read _ _ _ c.in-Ok-Big.field-0-is (record { reads = c.in-Ok-Big.ensures.reads; plain = c.in-Ok-Big.ensures.plain }))).0
+
+pub big_mode-requires-clause-few : goal.big_mode-requires-clause-few
+big_mode-requires-clause-few g c =
+    (AskFor-in_range _ _ c.in-Ok-Big.seed (AskFor-from_read _ _ _ c.in-Ok-Big.field-0-is (record { reads = c.in-Ok-Big.ensures.reads; plain = c.in-Ok-Big.ensures.plain }))).1
+
+pub returns-in-Ok-Big-clause-done : goal.returns-in-Ok-Big-clause-done
+returns-in-Ok-Big-clause-done g c = λ e.
+    HasRun-from_big Appends _ _ _ _ g.S.Source.left _ c.in-Ok-Big.nodes c.in-Ok-Big.seed
+    (AskFor-from_read _ _ _ c.in-Ok-Big.field-0-is (record { reads = c.in-Ok-Big.ensures.reads; plain = c.in-Ok-Big.ensures.plain }))
+    (c.big_mode.ensures.done e)
+
+pub returns-in-Ok-Big-clause-broken_off : goal.returns-in-Ok-Big-clause-broken_off
+returns-in-Ok-Big-clause-broken_off g c = λ e.
+    HasRun-from_big BreaksOff _ _ _ _ g.S.Source.left _ c.in-Ok-Big.nodes c.in-Ok-Big.seed
+    (AskFor-from_read _ _ _ c.in-Ok-Big.field-0-is (record { reads = c.in-Ok-Big.ensures.reads; plain = c.in-Ok-Big.ensures.plain }))
+    (c.big_mode.ensures.broken_off e)
+
+pub returns-in-Ok-Big-clause-complete : goal.returns-in-Ok-Big-clause-complete
+returns-in-Ok-Big-clause-complete g c = inr (inr (
+  Big c.in-Ok-Big.nodes c.in-Ok-Big.seed,
+  AskFor-from_read _ _ _ c.in-Ok-Big.field-0-is (record { reads = c.in-Ok-Big.ensures.reads; plain = c.in-Ok-Big.ensures.plain }),
+  λ sink. big_is_done _ _ c.big_mode.ensures.kind c.big_mode.ensures.unwritten sink,
+))
+
+-- ---- no mode
+
+pub returns-in-Err-Usage-clause-usage : goal.returns-in-Err-Usage-clause-usage
+returns-in-Err-Usage-clause-usage g c = λ e.
+    AreUsage-from_read _ _ c.in-Err-Usage.field-0-is (record { reads = c.in-Err-Usage.ensures.reads; plain = c.in-Err-Usage.ensures.plain })

@@ -1,0 +1,105 @@
+-- The number of nodes that words ask for is 2 to 256: the option's parser takes no other.
+use Rattle.std.proofs.Common.{◌≡◌, ◌≤◌, ℕ, Bool, cond, true, false, codes, refl, sym, true≢false, subst, lit<, arith, List, [], ◌∷◌, Option, Some, None}
+use Rattle.std.specs.Borrow.{Bor}
+use Rattle.std.specs.Option.{option_map_or, option_and_then}
+use Rattle.std.specs.Prelude.{find, option_map, pos, slice_get}
+use Rattle.std.specs.Str.{bytes_eq}
+use Rattle.std.specs.Str.Parse.{ParsesUnsigned, digits_value, without_leading_plus}
+use Rattle.clap.specs.Faults.{fault_of}
+use Rattle.clap.specs.Lexer.{without_minus}
+use Rattle.clap.specs.Simple.{argument_words, built, matches_of, names_of}
+use Rattle.clap.specs.Values.{IsSignedIn, IsUnsignedIn, read_as}
+use Rattle.clap.specs.ValueTests.{accepts, is_unsigned_in}
+use Rattle.clap.specs.Walk.{Row, Text, first_of, nothing_held, row_text}
+use Rattle.clap.specs.declared.builder.value_parser.Reading.{Reading}
+use Rattle.clap.specs.declared.builder.value_parser.Reading.TheVariants.{WithoutMinus}
+use Rattle.clap.specs.declared.builder.value_parser.ValueParser.{ValueParser}
+use Rattle.clap.specs.declared.builder.value_parser.ValueParser.TheVariants as vp
+use Rattle.clap.proofs.CallerReads.{signed_reads}
+use Rattle.clap.proofs.OnLiterals.{clap_on_literals}
+use Rattle.clap.proofs.ValueTestLemmas.{accepts-Accepts}
+use Rattle.cli_words.specs.declared.mode.Mode.TheVariants.{Play, Big}
+use Rattle.cli_words.specs.Command.{command_of, mode_named, number_in, number_of}
+use Rattle.pastry.specs.Asked.{AskFor}
+use Rattle.pastry.proofs.Accepted.{AllGood, AllFit, EachPasses, level_fit}
+
+abbrev nodes : Text
+nodes = codes "nodes"
+
+abbrev parser : ValueParser
+parser = vp.Signed (pos 2) (pos 256)
+
+-- the option of the nodes has this parser, and each argument sets its value
+rules_good : (names : Bor (List (Bor Text))) → AllGood nodes parser (built (command_of names)).top.rules
+unfolding clap_on_literals
+rules_good names = (
+  record { sets = refl; parser = λ e. absurd (true≢false (sym e)); case_counts = λ e. refl },
+  (
+    record { sets = refl; parser = λ e. refl; case_counts = λ e. refl },
+    (
+      record { sets = refl; parser = λ e. absurd (true≢false (sym e)); case_counts = λ e. refl },
+      (
+        record { sets = refl; parser = λ e. absurd (true≢false (sym e)); case_counts = λ e. refl },
+        (record { sets = refl; parser = λ e. absurd (true≢false (sym e)); case_counts = λ e. refl }, tt),
+      ),
+    ),
+  ),
+)
+
+matches_fit : (names : Bor (List (Bor Text))) (words : List Text) → fault_of (command_of names) words ≡ [] → AllFit nodes parser (matches_of (command_of names) words)
+matches_fit names words e =
+    level_fit nodes parser (built (command_of names)).top (rules_good names) (names_of (built (command_of names))) nothing_held
+    (argument_words (command_of names) words) _ _ e tt
+
+-- ---- the number that a text spells
+
+abbrev InRange : ℕ → Type 0
+InRange n = (2 ≤ n) × (n ≤ 256)
+
+some_number : {m n : ℕ} → ◌≡◌ {A = Option ℕ} (Some m) (Some n) → m ≡ n
+some_number e = cc
+
+text_in_range : (v : Text) → accepts false parser v ≡ true → InRange (number_in 4294967295 12 (without_minus v))
+text_in_range v passed = go (is_unsigned_in 0 4294967295 (without_minus v)) refl
+  where
+    go : (b : Bool) → is_unsigned_in 0 4294967295 (without_minus v) ≡ b → InRange (cond b (digits_value 10 (without_leading_plus (without_minus v))) 12)
+    go false e = (omega arith, omega arith)
+    go true e =
+        let reads : IsUnsignedIn 0 4294967295 (without_minus v) = accepts-Accepts false (vp.Unsigned 0 4294967295) (without_minus v) e in
+        let is : IsSignedIn (pos 2) (pos 256) v = accepts-Accepts false parser v passed in
+        let n = digits_value 10 (without_leading_plus (without_minus v)) in
+        let got = signed_reads (Unit {0}) (ParsesUnsigned 32 10) 32 2 256 v (Some n) ((reads.0, omega arith), refl) (λ u x h. h) (lit< tt) is in
+        let same : n ≡ got.0 = some_number got.1 in
+        (omega arith, omega arith)
+
+row_in_range : (r : Row) → EachPasses nodes parser r.values → r.reading ≡ WithoutMinus → InRange (option_map_or (number_in 4294967295 12) (row_text r) 12)
+row_in_range r passes reads = go r.values passes
+  where
+    go : (vs : List Text) → EachPasses nodes parser vs → InRange (option_map_or (number_in 4294967295 12) (option_map (read_as r.reading) (slice_get vs 0)) 12)
+    go [] h = (omega arith, omega arith)
+    go (v ∷ vs) h = subst (λ (how : Reading). InRange (number_in 4294967295 12 (read_as how v))) (sym reads) (text_in_range v h.0)
+
+number_in_range : (rows : List Row) → AllFit nodes parser rows → InRange (number_of nodes 4294967295 12 rows)
+number_in_range [] fit = (omega arith, omega arith)
+number_in_range (r ∷ rows) fit = go (bytes_eq r.id nodes) refl (number_in_range rows fit.1)
+  where
+    go : (b : Bool) → bytes_eq r.id nodes ≡ b → InRange (number_of nodes 4294967295 12 rows) →
+        InRange (option_map_or (number_in 4294967295 12) (option_and_then row_text (cond b (Some r) (find (λ (x : Row). bytes_eq x.id nodes) rows))) 12)
+    go true is rest = row_in_range r (fit.0.values is) (fit.0.reading is)
+    go false is rest = rest
+
+-- where a mode is `big`, its nodes are the number that was read
+named_nodes : (name : Option Text) (m n seed other : ℕ) → Big n seed ≡ mode_named name m other → m ≡ n
+named_nodes None m n seed other e = cc
+named_nodes (Some t) m n seed other e = go (bytes_eq t (codes "big")) e
+  where
+    go : (b : Bool) → Big n seed ≡ cond b (Big m other) Play → m ≡ n
+    go true e = cc
+    go false e = cc
+
+-- a mode that is asked for has 2 to 256 nodes
+pub AskFor-in_range : (words : List Text) (n seed : ℕ) → AskFor words (Big n seed) → (2 ≤ n) × (n ≤ 256)
+AskFor-in_range words n seed ask =
+    let rows = matches_of (command_of ask.names) words in
+    subst InRange (named_nodes (first_of (codes "mode") rows) (number_of nodes 4294967295 12 rows) n seed _ ask.found)
+    (number_in_range rows (matches_fit ask.names words ask.taken))
