@@ -1,4 +1,5 @@
 pub mod Asked
+pub mod Awaited
 pub mod Pledged
 pub mod Inputs
 pub mod Gives

@@ -25,14 +25,14 @@ use Rattle.node_parts.specs.Seats.{phase_to, granted_phase}
 
 abbrev pub phase_after : SeatChange → Phase → Phase
 phase_after seat.Keep p = p
-phase_after (seat.To joiner) p = phase_to joiner p
-phase_after (seat.Granted left right) p = granted_phase left right p
+phase_after (seat.To joiner) p = phase_to joiner.value p
+phase_after (seat.Granted handed) p = granted_phase handed.value.left handed.value.right p
 phase_after (seat.Ready a l r) p = Ready a l r
 
 abbrev pub gate_after : GateChange → Option Lease → Option Lease
 gate_after gate.Keep g = g
 gate_after gate.Clear g = None
-gate_after (gate.Set new) g = Some new
+gate_after (gate.Set new) g = Some new.value
 
 abbrev pub known_after : ℕ → Learn → List ℕ → List ℕ
 known_after me learns.Nothing known = known
@@ -51,10 +51,10 @@ files_after (store.Bury tombs) files = buried_all files tombs.files
 
 abbrev pub pending_after : PastChange → List Pending → List Pending
 pending_after past.Keep ps = ps
-pending_after (past.Add p) ps = with_ask ps p
+pending_after (past.Add p) ps = with_ask ps p.value
 pending_after (past.TakeOut place) ps = taken_out ps place
 pending_after (past.Hear place awaited) ps = heard_at ps place awaited
-pending_after (past.Leave reach joiner) ps = filter (λ p. not (is_left_to reach joiner p)) ps
+pending_after (past.Leave reach joiner) ps = filter (λ p. not (is_left_to reach.value joiner p)) ps
 pending_after (past.End file) ps = filter (λ p. not (is_of file p)) ps
 
 abbrev pub waiting_after : Wait → List ℕ → List ℕ

@@ -10,10 +10,13 @@ ghost use Rattle.wire_msg.specs.declared.note.Note.TheVariants as note;
 ghost use Rattle.wire_msg.specs.declared.reply.Reply.TheVariants as reply;
 ghost use Rattle.node_parts.specs.Change.{changed, waited, phase_after, known_after, files_after, pending_after, gate_after};
 ghost use Rattle.node_parts.specs.Plans.{Plans};
+ghost use Rattle.node_parts.specs.Seats.{phase_to, granted_phase};
 
 use crate::change::{
-    Change, GateChange, Learn, PastChange, Prepared, SeatChange, StoreChange, Wait,
+    Change, GateChange, Handed, Learn, PastChange, Prepared, SeatChange, StoreChange, Wait,
 };
+use crate::lease::Lists;
+use join_core::Joiner;
 use overlay_rules::Asked;
 use ring_math::{Id, OutOfMemory};
 use std::alloc::Global;
@@ -57,6 +60,14 @@ impl Change {
         }
     }
 
+    /// The join goes on to this, and what is learnt.
+    pub fn joins(alloc: Global, joiner: Joiner, learn: Learn) -> Result<Change, OutOfMemory>
+        ensures { (s : State) → IfOk result (λ change. changed change s ≡ record s { phase = phase_to joiner s.phase; known = known_after s.me learn s.known }) }
+    {
+        let boxed = Box::new(alloc, joiner)?;
+        Ok(Change::seats(SeatChange::To(boxed), learn))
+    }
+
     /// The phase, and the files.
     pub fn seats_and_files(seat: SeatChange, store: StoreChange) -> Change
         ensures { (s : State) → changed result s ≡ record s { phase = phase_after seat s.phase; files = files_after store s.files } }
@@ -70,6 +81,19 @@ impl Change {
             past: PastChange::Keep,
             waiting: Wait::Keep,
         }
+    }
+
+    /// What neighbours hand over is kept, and the files.
+    pub fn granted(
+        alloc: Global,
+        left: Option<Lists>,
+        right: Option<Lists>,
+        store: StoreChange,
+    ) -> Result<Change, OutOfMemory>
+        ensures { (s : State) → IfOk result (λ change. changed change s ≡ record s { phase = granted_phase left right s.phase; files = files_after store s.files }) }
+    {
+        let handed = Box::new(alloc, Handed { left, right })?;
+        Ok(Change::seats_and_files(SeatChange::Granted(handed), store))
     }
 
     /// The gates.

@@ -8,23 +8,23 @@ use overlay_rules::Pending;
 use ring_math::{Bytes, FileId, FileIds, Id, Ids};
 use wire_msg::{Notes, Sends};
 
-/// What becomes of the phase.
+/// What neighbours hand over to a joiner, each on its side.
+#[derive(Drop)]
+pub struct Handed {
+    pub left: Option<Lists>,
+    pub right: Option<Lists>,
+}
+
+/// What becomes of the phase. What few steps need is boxed here and below, so that a change stays small.
 #[derive(Drop)]
 pub enum SeatChange {
     Keep,
     /// A join begins, goes on or ends. Leases are asked for with no lists yet; of a join that is done nothing is changed.
-    To(Joiner),
+    To(Box<Joiner>),
     /// What neighbours hand over is kept, on each side that had nothing.
-    Granted {
-        left: Option<Lists>,
-        right: Option<Lists>,
-    },
+    Granted(Box<Handed>),
     /// It has joined by this attempt, with these links.
-    Ready {
-        attempt: u32,
-        left: Id,
-        right: Id,
-    },
+    Ready { attempt: u32, left: Id, right: Id },
 }
 
 /// What becomes of a gate.
@@ -32,7 +32,7 @@ pub enum SeatChange {
 pub enum GateChange {
     Keep,
     Clear,
-    Set(Lease),
+    Set(Box<Lease>),
 }
 
 /// What is learnt, in order.
@@ -59,13 +59,13 @@ pub enum StoreChange {
 pub enum PastChange {
     Keep,
     /// This one waits, in the place of another of its command.
-    Add(Pending),
+    Add(Box<Pending>),
     /// The one at this place is over.
     TakeOut { place: usize },
     /// The one at this place awaits only these.
     Hear { place: usize, awaited: Ids },
     /// Those in the gap of this joiner are over.
-    Leave { reach: Reach, joiner: Id },
+    Leave { reach: Box<Reach>, joiner: Id },
     /// Those of this file are over.
     End { file: FileId },
 }

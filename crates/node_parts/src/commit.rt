@@ -8,7 +8,7 @@ ghost use Rattle.node_parts.specs.Fits.{Fits, StoreFits, asks_more, waits_more};
 ghost use Rattle.node_parts.specs.Seen.{Stands};
 ghost use Rattle.node_parts.specs.Sound.{IsSound};
 
-use crate::change::{Change, GateChange, Learn, PastChange, SeatChange, StoreChange, Wait};
+use crate::change::{Change, GateChange, Handed, Learn, PastChange, SeatChange, StoreChange, Wait};
 use crate::lease::Lease;
 use crate::node::Node;
 use crate::seat::Seat;
@@ -22,8 +22,11 @@ fn change_seat(seat: &mut Seat, change: SeatChange)
 {
     match change {
         SeatChange::Keep => {}
-        SeatChange::To(joiner) => seat.go_to(joiner),
-        SeatChange::Granted { left, right } => seat.grant(left, right),
+        SeatChange::To(joiner) => seat.go_to(Box::into_inner(joiner)),
+        SeatChange::Granted(handed) => {
+            let Handed { left, right } = Box::into_inner(handed);
+            seat.grant(left, right);
+        }
         SeatChange::Ready {
             attempt,
             left,
@@ -38,7 +41,7 @@ fn change_gate(gate: &mut Option<Lease>, change: GateChange)
     match change {
         GateChange::Keep => {}
         GateChange::Clear => *gate = None,
-        GateChange::Set(lease) => *gate = Some(lease),
+        GateChange::Set(lease) => *gate = Some(Box::into_inner(lease)),
     }
 }
 
@@ -80,12 +83,12 @@ fn change_past(past: &mut Past, change: PastChange)
 {
     match change {
         PastChange::Keep => {}
-        PastChange::Add(ask) => past.add(ask),
+        PastChange::Add(ask) => past.add(Box::into_inner(ask)),
         PastChange::TakeOut { place } => {
             let _ask = past.take_out(place);
         }
         PastChange::Hear { place, awaited } => past.hear(place, awaited),
-        PastChange::Leave { reach, joiner } => past.leave(&reach, joiner),
+        PastChange::Leave { reach, joiner } => past.leave(&*reach, joiner),
         PastChange::End { file } => past.end(&file),
     }
 }

@@ -16,7 +16,9 @@ pub use build::{
     closing, one_more, quietly, replied, replied_after, reply_in, send_to_each, sending,
     sent_to_both,
 };
-pub use change::{Change, GateChange, Learn, PastChange, Prepared, SeatChange, StoreChange, Wait};
+pub use change::{
+    Change, GateChange, Handed, Learn, PastChange, Prepared, SeatChange, StoreChange, Wait,
+};
 pub use lease::{Lease, Lists, bare, joiner_of};
 pub use node::Node;
 pub use seat::Seat;

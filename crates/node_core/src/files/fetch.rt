@@ -28,6 +28,7 @@ fn answer(node: &Node, alloc: Global, file: &FileId) -> Result<Reply, OutOfMemor
 }
 
 /// The row of a fetch.
+#[inline(never)]
 pub(crate) fn on_fetch(
     node: &Node,
     alloc: Global,

@@ -21,6 +21,7 @@ fn is_new(put: Put) -> bool
 }
 
 /// The row of a file that is handed over: it is put where it can be, and the join may be done with it.
+#[inline(never)]
 pub(crate) fn on_handover(
     node: &Node,
     alloc: Global,

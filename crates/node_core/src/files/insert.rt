@@ -99,10 +99,11 @@ fn replicating(
         targets,
         awaited,
     };
+    let past = PastChange::Add(Box::new(alloc, pending)?);
     Ok(Prepared {
         messages,
         notes,
-        change: Change::files(store, PastChange::Add(pending), wait),
+        change: Change::files(store, past, wait),
     })
 }
 
@@ -175,6 +176,7 @@ fn answered(
 }
 
 /// The row of an insert.
+#[inline(never)]
 pub(crate) fn on_insert(
     node: &Node,
     alloc: Global,

@@ -53,6 +53,7 @@ fn delivered(
 }
 
 /// The row of a lookup.
+#[inline(never)]
 pub(crate) fn on_lookup(
     node: &Node,
     alloc: Global,

@@ -94,6 +94,7 @@ fn reclaim_here(
 }
 
 /// The row of a reclaim.
+#[inline(never)]
 pub(crate) fn on_reclaim(
     node: &Node,
     alloc: Global,

@@ -40,6 +40,7 @@ fn acknowledged(
 }
 
 /// The row of a replica from a root.
+#[inline(never)]
 pub(crate) fn on_replicate(
     node: &Node,
     alloc: Global,
@@ -112,6 +113,7 @@ fn stored(
 }
 
 /// The row of an acknowledgement.
+#[inline(never)]
 pub(crate) fn on_replica_ack(
     node: &Node,
     alloc: Global,

@@ -19,6 +19,7 @@ fn is_waiting(waiting: &[u64], number: u64) -> bool
 }
 
 /// The row of a reply: it closes its number, if that waits.
+#[inline(never)]
 pub(crate) fn on_reply(
     node: &Node,
     alloc: Global,

@@ -11,13 +11,14 @@ ghost use Rattle.node_parts.specs.Seen.{seen, Shows};
 ghost use Rattle.node_parts.specs.Plans.{Plans};
 
 use join_core::Begin;
-use node_parts::{Change, Learn, Node, Prepared, SeatChange, closing, one_more, sending};
+use node_parts::{Change, Learn, Node, Prepared, closing, one_more, sending};
 use overlay_rules::Way;
 use ring_math::{Id, OutOfMemory};
 use std::alloc::Global;
 use wire_msg::{Answer, Message, Own, Sends, Why};
 
 /// A Join command.
+#[inline(never)]
 pub(crate) fn on_join(
     node: &Node,
     alloc: Global,
@@ -29,7 +30,7 @@ pub(crate) fn on_join(
     let mut joiner = node.seat.joiner().copy(alloc)?;
     match joiner.begin(number) {
         Begin::Started { attempt } => {
-            let change = Change::seats(SeatChange::To(joiner), Learn::Nothing);
+            let change = Change::joins(alloc, joiner, Learn::Nothing)?;
             let request = Message::JoinRequest {
                 joiner: node.me,
                 attempt,
@@ -51,6 +52,7 @@ fn stopped(node: &Node, alloc: Global, number: u64, own: Own) -> Result<Prepared
 }
 
 /// A JoinRequest, which is routed by the joiner's identifier. In the joiner's own gap it is answered too.
+#[inline(never)]
 pub(crate) fn on_join_request(
     node: &Node,
     alloc: Global,

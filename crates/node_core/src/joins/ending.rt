@@ -11,7 +11,7 @@ ghost use Rattle.node_parts.specs.Seen.{seen};
 ghost use Rattle.node_parts.specs.Plans.{Plans};
 
 use join_core::{Halted, Joiner};
-use node_parts::{Change, Learn, Node, Prepared, SeatChange, closing, quietly, sent_to_both};
+use node_parts::{Change, Learn, Node, Prepared, closing, quietly, sent_to_both};
 use ring_math::{Id, OutOfMemory};
 use std::alloc::Global;
 use wire_msg::{Answer, Message, Note, Notes, Own, Sends, Why};
@@ -32,6 +32,7 @@ fn released(alloc: Global, halted: &Halted) -> Result<Sends, OutOfMemory>
 }
 
 /// A GiveUp command.
+#[inline(never)]
 pub(crate) fn on_give_up(node: &Node, alloc: Global, number: u64) -> Result<Prepared, OutOfMemory>
     ensures { (known : List ℕ) → IfOk result (λ p. Plans (seen node.now known) p (on_give_up_of (seen node.now known) number)) }
 {
@@ -73,7 +74,7 @@ fn given_up(
         number,
         answer: Answer::GaveUp,
     })?;
-    let change = Change::seats(SeatChange::To(joiner), Learn::Nothing);
+    let change = Change::joins(alloc, joiner, Learn::Nothing)?;
     Ok(Prepared {
         messages,
         notes,
@@ -82,6 +83,7 @@ fn given_up(
 }
 
 /// A JoinRefuse.
+#[inline(never)]
 pub(crate) fn on_join_refuse(
     node: &Node,
     alloc: Global,
@@ -99,6 +101,7 @@ pub(crate) fn on_join_refuse(
 }
 
 /// A Deny.
+#[inline(never)]
 pub(crate) fn on_deny(
     node: &Node,
     alloc: Global,
@@ -138,7 +141,7 @@ fn ended(
         IfOk result (λ p. Plans s p (ended_by s (known_after s.me learn s.known) from why (Some halted.now))) }
 {
     let messages = released(alloc, halted)?;
-    let change = Change::seats(SeatChange::To(joiner), learn);
+    let change = Change::joins(alloc, joiner, learn)?;
     let answer = Answer::Denied { node: from, why };
     closing(alloc, change, messages, halted.number, answer)
 }

@@ -116,6 +116,7 @@ pub(crate) fn ready_with_file(
 }
 
 /// A Grant.
+#[inline(never)]
 pub(crate) fn on_grant(
     node: &Node,
     alloc: Global,
@@ -224,8 +225,8 @@ fn keeping(
     }
     let left = given(alloc, from == join.left, lists)?;
     let right = given(alloc, from == join.right, lists)?;
-    let seat = SeatChange::Granted { left, right };
-    Ok(quietly(alloc, Change::seats_and_files(seat, store)))
+    let change = Change::granted(alloc, left, right, store)?;
+    Ok(quietly(alloc, change))
 }
 
 /// A copy of the lists, where it is wanted.

@@ -63,6 +63,7 @@ pub(crate) fn clearing(node: &Node, joiner: Id, attempt: u32) -> Change
 }
 
 /// A Release: each gate that is the sender's with this attempt is taken away.
+#[inline(never)]
 pub(crate) fn on_release(node: &Node, alloc: Global, from: Id, attempt: u32) -> Prepared
     ensures { (known : List ℕ) → Plans (seen node.now known) result (on_release_of (seen node.now known) from attempt) }
 {
@@ -74,6 +75,7 @@ pub(crate) fn on_release(node: &Node, alloc: Global, from: Id, attempt: u32) -> 
 }
 
 /// A Confirm: the sender becomes the link of each side whose gate is its with this attempt.
+#[inline(never)]
 pub(crate) fn on_confirm(node: &Node, alloc: Global, from: Id, attempt: u32) -> Prepared
     ensures { (known : List ℕ) → Plans (seen node.now known) result (on_confirm_of (seen node.now known) from attempt) }
 {

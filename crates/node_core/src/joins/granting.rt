@@ -97,10 +97,11 @@ fn set_gate(
         gate_on asked (record { gate = gate.now; lists = lists.now }) (unless_lease (is_older gate.now.joiner gate.now.attempt) held.now)) }
 {
     if asked {
-        Ok(GateChange::Set(Lease {
+        let lease = Lease {
             gate: *gate,
             lists: lists.copy(alloc)?,
-        }))
+        };
+        Ok(GateChange::Set(Box::new(alloc, lease)?))
     } else {
         Ok(without_older(held, gate.joiner, gate.attempt))
     }
@@ -130,6 +131,7 @@ pub(crate) fn open(
     let left_gate = set_gate(alloc, on_left, gate, &lists, &node.left_gate)?;
     let on_right = node.me == gate.left;
     let right_gate = set_gate(alloc, on_right, gate, &lists, &node.right_gate)?;
+    let gap = Box::new(alloc, *reach)?;
     let change = Change {
         seat: SeatChange::Keep,
         left_gate,
@@ -137,7 +139,7 @@ pub(crate) fn open(
         learn: Learn::Nothing,
         store: StoreChange::Keep,
         past: PastChange::Leave {
-            reach: *reach,
+            reach: gap,
             joiner: gate.joiner,
         },
         waiting: Wait::Keep,

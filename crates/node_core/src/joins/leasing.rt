@@ -16,6 +16,7 @@ use std::alloc::Global;
 use wire_msg::{Message, Notes, Why};
 
 /// A LeaseRequest.
+#[inline(never)]
 pub(crate) fn on_lease_request(
     node: &Node,
     alloc: Global,

@@ -7,17 +7,19 @@ ghost use Rattle.overlay_rules.specs.Gatekeeper.{on_probe as on_probe_of};
 ghost use Rattle.node_parts.specs.Seen.{seen, Shows};
 ghost use Rattle.node_parts.specs.Plans.{Plans};
 ghost use Rattle.node_core.specs.Asked.{probes_sent, leases_asked};
+ghost use Rattle.node_core.specs.Awaited.{is_asking, is_awaited};
 
 use join_core::{Joiner, ProbeStep};
 use node_parts::{
-    Change, Learn, Node, Prepared, SeatChange, first_left, first_right, leaves_of, quietly,
-    send_to_each, sending, sent_to_both,
+    Change, Learn, Node, Prepared, first_left, first_right, leaves_of, quietly, send_to_each,
+    sending, sent_to_both,
 };
 use ring_math::{Id, Ids, OutOfMemory};
 use std::alloc::Global;
 use wire_msg::{Message, Notes, Sends};
 
 /// A Probe: a ready node tells of itself and its leaves.
+#[inline(never)]
 pub(crate) fn on_probe(
     node: &Node,
     alloc: Global,
@@ -38,8 +40,35 @@ pub(crate) fn on_probe(
     )
 }
 
-/// A JoinReply: each leaf is probed, once the members were learnt.
+/// Whether the joiner waits for the answer to its request.
+fn asks(joiner: &Joiner, attempt: u32) -> bool
+    ensures { result ≡ is_asking joiner.now attempt }
+{
+    match joiner {
+        Joiner::Asking { attempt: own, .. } => attempt == own.get(),
+        _ => false,
+    }
+}
+
+/// A JoinReply. One that comes again changes nothing, so that is seen before anything is learnt from it.
+#[inline(never)]
 pub(crate) fn on_join_reply(
+    node: &Node,
+    alloc: Global,
+    attempt: u32,
+    members: &Ids,
+) -> Result<Prepared, OutOfMemory>
+    ensures { (known : List ℕ) → Shows node.now known → IfOk result (λ p. Plans (seen node.now known) p (on_join_reply_of (seen node.now known) attempt members.now)) }
+{
+    if !asks(node.seat.joiner(), attempt) {
+        return Ok(quietly(alloc, Change::nothing()));
+    }
+    welcomed(node, alloc, attempt, members)
+}
+
+/// Each leaf is probed, once the members were learnt.
+#[inline(never)]
+fn welcomed(
     node: &Node,
     alloc: Global,
     attempt: u32,
@@ -72,16 +101,48 @@ fn probing(
     };
     send_to_each(alloc, &mut messages, probes, &probe)?;
     let learnt = members.copy(alloc)?;
+    let change = Change::joins(alloc, joiner, Learn::All(learnt))?;
     Ok(Prepared {
         messages,
         notes: Notes::new(alloc),
-        change: Change::seats(SeatChange::To(joiner), Learn::All(learnt)),
+        change,
     })
 }
 
-/// A ProbeReply: the members are learnt, and new leaves are probed; once each has answered, both neighbours are asked for
-/// their leases.
+/// Whether the joiner waits for this answer to a probe.
+fn awaits(joiner: &Joiner, from: Id, attempt: u32) -> bool
+    ensures { result ≡ is_awaited joiner.now from attempt }
+{
+    match joiner {
+        Joiner::Probing {
+            attempt: own,
+            probed,
+            ..
+        } => attempt == own.get() && probed.awaits(from),
+        _ => false,
+    }
+}
+
+/// A ProbeReply. Most come to a node that waits for none, so that is seen before anything is learnt from it.
+#[inline(never)]
 pub(crate) fn on_probe_reply(
+    node: &Node,
+    alloc: Global,
+    from: Id,
+    attempt: u32,
+    members: &Ids,
+) -> Result<Prepared, OutOfMemory>
+    ensures { (known : List ℕ) → Shows node.now known → IfOk result (λ p. Plans (seen node.now known) p (on_probe_reply_of (seen node.now known) from attempt members.now)) }
+{
+    if !awaits(node.seat.joiner(), from, attempt) {
+        return Ok(quietly(alloc, Change::nothing()));
+    }
+    heard(node, alloc, from, attempt, members)
+}
+
+/// The members are learnt, and new leaves are probed; once each has answered, both neighbours are asked for their leases.
+#[inline(never)]
+fn heard(
     node: &Node,
     alloc: Global,
     from: Id,
@@ -125,9 +186,10 @@ fn leasing(
     };
     let messages = sent_to_both(alloc, left, right, &request)?;
     let learnt = members.copy(alloc)?;
+    let change = Change::joins(alloc, joiner, Learn::All(learnt))?;
     Ok(Prepared {
         messages,
         notes: Notes::new(alloc),
-        change: Change::seats(SeatChange::To(joiner), Learn::All(learnt)),
+        change,
     })
 }

@@ -13,7 +13,7 @@ pub returns : goal.returns
 returns c = λ known old e.
     let s : State = seen c.args.node.now known in
     record {
-      state = c.seats-change.ensures s ∙ ap (λ (j : Joiner). record s { phase = phase_to j s.phase }) e;
+      state = c.in_ok-change.ensures s ∙ ap (λ (j : Joiner). record s { phase = phase_to j s.phase }) e;
       messages = c.in_ok-messages.ensures;
       notes = c.in_ok-push-2.ensures.ok ∙ ap (λ (ns : List Note). ns ++ note.Closed c.args.number answer.GaveUp ∷ []) (c.in_ok-push.ensures.ok ∙ ap (λ (ns : List Note). ns ++ note.Closed c.args.halted.now.number (answer.Stopped s.me own.GivenUp) ∷ []) c.new-notes.ensures);
     }

@@ -35,6 +35,6 @@ returns c = λ known h.
     ∙ ready-by t join.attempt join.number join.left join.right _ _
     ∙ ap (λ (b : Bool). if b then readied t join.attempt join.number join.left join.right else nothing t) (sym c.is_complete_buried.ensures ∙ c.if-is_complete_buried.false)))
     (c.quietly-2.ensures s t
-    (c.seats_and_files.ensures s
+    (c.in_ok-change.ensures s
     ∙ keeping-state s c.args.from lists join (left_lists s.phase) (right_lists s.phase) c.in_ok-left.left c.in_ok-right.right _ c.requires (c.in_ok-left.ensures ∙ ap (λ (b : Bool). if b then Some lists else None) c.eq.ensures) (c.in_ok-right.ensures ∙ ap (λ (b : Bool). if b then Some lists else None) c.eq-2.ensures)
     (ap (λ (x : Roomy). buried_all s.files x.files) c.in_ok-copy.ensures ∙ ap (λ (x : Lists). buried_all s.files x.tombs) c.lists.view_is)))
