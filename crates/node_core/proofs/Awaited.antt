@@ -1,5 +1,5 @@
 -- An answer that is not awaited does nothing.
-use Rattle.std.proofs.Common.{◌≡◌, ℕ, Bool, false, if◌then◌else◌, Option, None, List, refl, sym, ap}
+use Rattle.std.proofs.Common.{◌≡◌, ℕ, Bool, false, if◌then◌else◌, None, List, refl, sym, ap}
 use Rattle.ring_math.specs.Sides.{learn_all, leaves}
 use Rattle.overlay_rules.specs.State.{State}
 use Rattle.overlay_rules.specs.Outcome.{nothing}
