@@ -63,7 +63,8 @@ impl Player {
         ensures err { OnErr result (self.new ≡ self.old) }
     {
         let actions = scenario.actions();
-        let (turn, cursor) = self.next(scenario);
+        let mut cursor = self.spot();
+        let turn = self.next(&mut cursor, scenario);
         if !self.make(alloc, actions, turn)? {
             return Ok(false);
         }
@@ -87,17 +88,22 @@ impl Player {
         self.world.finish(self.skipped)
     }
 
-    /// The next turn, and the cursor behind it. The player's own cursor goes on only once the turn was made, since that may
-    /// be refused.
-    fn next(&self, scenario: &Scenario) -> (Turn, Cursor)
-        requires { Plays scenario.now self.now }
-        ensures { IsNext scenario.now self.now result.1 result.0 }
+    /// A cursor of its own at this place. The player's goes on only once the turn was made, since that may be refused.
+    fn spot(&self) -> Cursor
+        ensures { result ≡ self.now.spot }
     {
-        let mut cursor = self.cursor.copy();
+        self.cursor.copy()
+    }
+
+    /// The next turn at the player's place. The cursor stands behind it afterwards.
+    fn next(&self, cursor: &mut Cursor, scenario: &Scenario) -> Turn
+        requires plays { Plays scenario.now self.now }
+        requires at { cursor.old ≡ self.now.spot }
+        ensures { IsNext scenario.now self.now cursor.new result }
+    {
         let sent = self.world.sent_len();
         let oldest = self.world.oldest_undelivered();
-        let turn = cursor.next(scenario, sent, oldest);
-        (turn, cursor)
+        cursor.next(scenario, sent, oldest)
     }
 
     /// Makes a turn of these actions, unless it says that none is left.

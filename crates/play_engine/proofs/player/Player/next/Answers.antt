@@ -8,7 +8,7 @@ use Rattle.play_engine.proofs.player.Player.next.Goals as goal
 
 pub returns : goal.returns
 returns c =
-    is_next c.args.scenario.now c.args.self.now _ _ _ _ _ (c.copy-cursor.ensures ∙ ap (λ (a : Progress). a.spot) c.self.view_is)
+    is_next c.args.scenario.now c.args.self.now _ _ _ _ _ c.requires.at
     (c.sent_len-sent.ensures ∙ ap (λ (a : Progress). length (sent_in a.recorded.entries)) c.self.view_is)
     (c.oldest_undelivered-oldest.ensures ∙ ap (λ (a : Progress). oldest_undelivered (world_of a.recorded)) c.self.view_is)
-    c.next-turn.ensures.turn c.next-turn.ensures.left c.next-turn.ensures.copies c.next-turn.ensures.place
+    c.next.ensures.turn c.next.ensures.left c.next.ensures.copies c.next.ensures.place
