@@ -7,3 +7,5 @@ pub mod Walking
 pub mod Finishing
 pub mod PlainWords
 pub mod Answered
+pub mod Accepted
+pub mod NodeRange

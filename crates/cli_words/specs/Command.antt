@@ -1,5 +1,5 @@
 -- The command, as `clap` has it, and what a reading of it answers.
-use Rattle.std.specs.Prelude.{◌≡◌, ◌≢◌, ℕ, List, [], ◌∷◌, map, codes, Option, Some, None, Result, Err, IfOk, true, pos, if◌then◌else◌}
+use Rattle.std.specs.Prelude.{◌≡◌, ◌≢◌, ◌≤◌, ℕ, List, [], ◌∷◌, map, codes, Option, Some, None, Result, Err, IfOk, true, pos, if◌then◌else◌}
 use Rattle.std.specs.Option.{option_map_or}
 use Rattle.std.specs.Str.{bytes_eq}
 use Rattle.std.specs.Str.Parse.{digits_value, without_leading_plus}
@@ -69,6 +69,11 @@ mode_named (Some t) nodes seed = if bytes_eq t (codes "big") then Big nodes seed
 abbrev pub mode_of : List Row → Mode
 mode_of rows =
     mode_named (first_of (codes "mode") rows) (number_of (codes "nodes") 4294967295 12 rows) (number_of (codes "seed") 18446744073709551615 7 rows)
+
+-- a made scenario has 2 to 256 nodes
+abbrev pub HasNodesInRange : Mode → Type 0
+HasNodesInRange Play = Unit {0}
+HasNodesInRange (Big nodes seed) = (2 ≤ nodes) × (nodes ≤ 256)
 
 -- What a reading answers: Usage exactly where the command's reading is refused for another cause than memory.
 pub record Reads (names : Bor (List (Bor Text))) (words : List Text) (result : Result Mode WordFault) : Type 0 where

@@ -1,9 +1,9 @@
 //! Reading the words of the command line.
 
-ghost use Rattle.std.specs.Prelude.{◌≡◌, ◌≢◌, ◌⊎◌, Ok, Err, List, codes, option_map, map};
+ghost use Rattle.std.specs.Prelude.{◌≡◌, ◌≢◌, ◌⊎◌, Ok, Err, IfOk, List, codes, option_map, map};
 ghost use Rattle.std.specs.Rc.{rc_str_bytes};
 ghost use Rattle.clap.specs.Words.{rows_of, found_of, first_of, kind_of};
-ghost use Rattle.cli_words.specs.Command.{Reads, AreModes, mode_of, mode_named, number_of};
+ghost use Rattle.cli_words.specs.Command.{Reads, AreModes, HasNodesInRange, mode_of, mode_named, number_of};
 ghost use Rattle.cli_words.specs.Plain.{Piece, ArePlain, mode_by};
 
 use crate::command::command;
@@ -68,10 +68,11 @@ fn fault_in(error: &Error) -> WordFault
 
 /// Reads the words of the command line, of which the first is the program's name. `Usage` comes exactly where the reading of
 /// the command refuses them for another cause than memory, and `OutOfMemory` may come in its place. Plain words are never
-/// `Usage`.
+/// `Usage`. The nodes of a `Big` that is answered are 2 to 256.
 pub fn read_words(alloc: Global, words: &[RcStr]) -> Result<Mode, WordFault>
     ensures reads { (result ≡ Err WordFault.OutOfMemory) ⊎ ((names : _) × AreModes names × Reads names (map rc_str_bytes words.now) result) }
     ensures plain { (pieces : List Piece) → ArePlain pieces (map rc_str_bytes words.now) → (result ≡ Err WordFault.OutOfMemory) ⊎ (result ≡ Ok (mode_by pieces)) }
+    ensures range { IfOk result HasNodesInRange }
 {
     read(alloc, words)
 }

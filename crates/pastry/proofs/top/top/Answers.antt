@@ -3,7 +3,6 @@ use Rattle.outside.specs.Sink.{BreaksOff}
 use Rattle.cli_words.specs.declared.mode.Mode.TheVariants.{Play, Big}
 use Rattle.pastry.specs.Runs.{Appends}
 use Rattle.pastry.proofs.Words.{AskFor-from_read, AreUsage-from_read, not_both_modes}
-use Rattle.pastry.proofs.NodeRange.{AskFor-in_range}
 use Rattle.pastry.proofs.Played.{HasRun-from_play, HasRun-from_big}
 use Rattle.pastry.proofs.Endings.{answers, big_is_done, due_as_named, steady_count}
 use Rattle.pastry.proofs.top.top.Goals as goal
@@ -74,14 +73,6 @@ returns-in-Ok-Play-clause-left_alone g c = λ nodes seed named.
     absurd (not_both_modes _ nodes seed (AskFor-from_read _ _ _ c.in-Ok-Play.field-0-is (record { reads = c.in-Ok-Play.ensures.reads; plain = c.in-Ok-Play.ensures.plain })) named)
 
 -- ---- big
-
-pub big_mode-requires-clause-some : goal.big_mode-requires-clause-some
-big_mode-requires-clause-some g c =
-    (AskFor-in_range _ _ c.in-Ok-Big.seed (AskFor-from_read _ _ _ c.in-Ok-Big.field-0-is (record { reads = c.in-Ok-Big.ensures.reads; plain = c.in-Ok-Big.ensures.plain }))).0
-
-pub big_mode-requires-clause-few : goal.big_mode-requires-clause-few
-big_mode-requires-clause-few g c =
-    (AskFor-in_range _ _ c.in-Ok-Big.seed (AskFor-from_read _ _ _ c.in-Ok-Big.field-0-is (record { reads = c.in-Ok-Big.ensures.reads; plain = c.in-Ok-Big.ensures.plain }))).1
 
 pub returns-in-Ok-Big-clause-done : goal.returns-in-Ok-Big-clause-done
 returns-in-Ok-Big-clause-done g c = λ e.

@@ -1,8 +1,8 @@
--- The number of nodes that words ask for is 2 to 256: the option's parser takes no other.
-use Rattle.std.proofs.Common.{◌≡◌, ◌≤◌, ℕ, Bool, cond, true, false, codes, refl, sym, true≢false, subst, lit<, arith, List, [], ◌∷◌, Option, Some, None}
+-- The number of nodes that a reading answers is 2 to 256: the option's parser takes no other.
+use Rattle.std.proofs.Common.{◌≡◌, ◌≤◌, ◌⊎◌, inl, inr, ℕ, Bool, cond, true, false, codes, refl, sym, true≢false, subst, lit<, arith, List, [], ◌∷◌, Option, Some, None, Result, Ok, Err}
 use Rattle.std.specs.Borrow.{Bor}
 use Rattle.std.specs.Option.{option_map_or, option_and_then}
-use Rattle.std.specs.Prelude.{find, option_map, pos, slice_get}
+use Rattle.std.specs.Prelude.{IfOk, find, option_map, pos, slice_get}
 use Rattle.std.specs.Str.{bytes_eq}
 use Rattle.std.specs.Str.Parse.{ParsesUnsigned, digits_value, without_leading_plus}
 use Rattle.clap.specs.Faults.{fault_of}
@@ -18,10 +18,12 @@ use Rattle.clap.specs.declared.builder.value_parser.ValueParser.TheVariants as v
 use Rattle.clap.proofs.CallerReads.{signed_reads}
 use Rattle.clap.proofs.OnLiterals.{clap_on_literals}
 use Rattle.clap.proofs.ValueTestLemmas.{accepts-Accepts}
+use Rattle.cli_words.specs.declared.mode.Mode.{Mode}
 use Rattle.cli_words.specs.declared.mode.Mode.TheVariants.{Play, Big}
-use Rattle.cli_words.specs.Command.{command_of, mode_named, number_in, number_of}
-use Rattle.pastry.specs.Asked.{AskFor}
-use Rattle.pastry.proofs.Accepted.{AllGood, AllFit, EachPasses, level_fit}
+use Rattle.cli_words.specs.declared.mode.WordFault.{WordFault}
+use Rattle.cli_words.specs.declared.mode.WordFault.TheVariants.{OutOfMemory}
+use Rattle.cli_words.specs.Command.{AreModes, HasNodesInRange, Reads, command_of, mode_named, mode_of, number_in, number_of}
+use Rattle.cli_words.proofs.Accepted.{AllGood, AllFit, EachPasses, level_fit}
 
 abbrev nodes : Text
 nodes = codes "nodes"
@@ -88,18 +90,25 @@ number_in_range (r ∷ rows) fit = go (bytes_eq r.id nodes) refl (number_in_rang
     go true is rest = row_in_range r (fit.0.values is) (fit.0.reading is)
     go false is rest = rest
 
--- where a mode is `big`, its nodes are the number that was read
-named_nodes : (name : Option Text) (m n seed other : ℕ) → Big n seed ≡ mode_named name m other → m ≡ n
-named_nodes None m n seed other e = cc
-named_nodes (Some t) m n seed other e = go (bytes_eq t (codes "big")) e
-  where
-    go : (b : Bool) → Big n seed ≡ cond b (Big m other) Play → m ≡ n
-    go true e = cc
-    go false e = cc
+-- ---- the mode
 
--- a mode that is asked for has 2 to 256 nodes
-pub AskFor-in_range : (words : List Text) (n seed : ℕ) → AskFor words (Big n seed) → (2 ≤ n) × (n ≤ 256)
-AskFor-in_range words n seed ask =
-    let rows = matches_of (command_of ask.names) words in
-    subst InRange (named_nodes (first_of (codes "mode") rows) (number_of nodes 4294967295 12 rows) n seed _ ask.found)
-    (number_in_range rows (matches_fit ask.names words ask.taken))
+named_in_range : (name : Option Text) (n seed : ℕ) → InRange n → HasNodesInRange (mode_named name n seed)
+named_in_range None n seed h = tt
+named_in_range (Some t) n seed h = go (bytes_eq t (codes "big"))
+  where
+    go : (b : Bool) → HasNodesInRange (cond b (Big n seed) Play)
+    go true = h
+    go false = tt
+
+mode_in_range : (names : Bor (List (Bor Text))) (words : List Text) → fault_of (command_of names) words ≡ [] →
+    HasNodesInRange (mode_of (matches_of (command_of names) words))
+mode_in_range names words e =
+    let rows = matches_of (command_of names) words in
+    named_in_range (first_of (codes "mode") rows) (number_of nodes 4294967295 12 rows) _ (number_in_range rows (matches_fit names words e))
+
+-- a mode that is answered has 2 to 256 nodes
+pub read_in_range : (words : List Text) (result : Result Mode WordFault) → (result ≡ Err OutOfMemory) ⊎ ((names : Bor (List (Bor Text))) × AreModes names × Reads names words result) →
+    IfOk result HasNodesInRange
+read_in_range words (Ok mode) (inl memory) = cc
+read_in_range words (Ok mode) (inr (names, modes, reads)) = subst HasNodesInRange (sym reads.ok.1) (mode_in_range names words reads.ok.0)
+read_in_range words (Err fault) read = tt
