@@ -4,7 +4,6 @@ ghost use Rattle.std.specs.Prelude.{◌≡◌, ◌≢◌, ◌≤◌, ◌↔◌, 
 ghost use Rattle.outside.specs.Rose.{Rose};
 ghost use Rattle.outside.specs.Sink.{BreaksOff};
 ghost use Rattle.outside.specs.Told.{Told};
-ghost use Rattle.scenario_reader.specs.Plain.{ids};
 ghost use Rattle.scenario_reader.specs.declared.fault.LineFault.{LineFault as Fault};
 ghost use Rattle.schedule.specs.Made.{made};
 ghost use Rattle.delivery_report.specs.Texts.{report_text, summary_text};
@@ -19,19 +18,12 @@ use crate::reading::read_input;
 use delivery_report::{report, summary};
 use outside::{Sink, Source, Turnstile, write_all};
 use overlay_rules::Record;
-use play_engine::play_past;
-use ring_math::{Id, OutOfMemory};
-use scenario_reader::{NodeLine, Scenario};
+use play_engine::{ids_of, play_past};
+use ring_math::OutOfMemory;
+use scenario_reader::Scenario;
 use schedule::make_scenario;
 use std::alloc::Global;
 use wire_msg::Frame;
-
-/// The identifiers of nodes.
-fn ids_of(alloc: Global, nodes: &[NodeLine]) -> Result<Vec<Id>, OutOfMemory>
-    ensures { IfOk result (λ listed. listed.items ≡ ids nodes.now) }
-{
-    Ok(nodes.iter().map(|node| node.id).collect(alloc)?)
-}
 
 /// Plays a scenario past a turnstile. The headline holds of its record.
 fn play_scenario<T: Turnstile>(

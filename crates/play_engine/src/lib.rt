@@ -10,7 +10,7 @@ mod player;
 
 use outside::{FreePass, Turnstile};
 use overlay_rules::Record;
-pub use player::Player;
+pub use player::{Player, ids_of};
 use ring_math::OutOfMemory;
 use scenario_reader::Scenario;
 use std::alloc::Global;

@@ -145,8 +145,8 @@ fn act(world: &mut World, alloc: Global, what: &What) -> Result<(), OutOfMemory>
     }
 }
 
-/// The identifiers of nodes.
-fn ids_of(alloc: Global, nodes: &[NodeLine]) -> Result<Vec<Id>, OutOfMemory>
+/// The identifiers of nodes, in their order. The only error is that memory was refused.
+pub fn ids_of(alloc: Global, nodes: &[NodeLine]) -> Result<Vec<Id>, OutOfMemory>
     ensures { IfOk result (λ listed. listed.items ≡ ids nodes.now) }
 {
     Ok(nodes.iter().map(|node| node.id).collect(alloc)?)
