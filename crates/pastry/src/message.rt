@@ -95,6 +95,11 @@ impl Place<'_> {
     }
 }
 
+/// Writes what is said of a whole line.
+fn explain_line<W: fmt::Write>(f: &mut fmt::Formatter<W>, line: u32, text: &str) -> fmt::Result {
+    write!(f, "line {line}: {text}")
+}
+
 /// A fault of a scenario, with the text that has it.
 #[derive(Drop)]
 struct Explained<'a> {
@@ -111,26 +116,6 @@ impl Explained<'_> {
         }
     }
 
-    /// A fault of a whole line.
-    fn explain_line<W: fmt::Write>(&self, f: &mut fmt::Formatter<W>, line: u32) -> fmt::Result {
-        match self.fault {
-            LineFault::TooLong { .. } => write!(f, "line {line}: a line has at most 9,000 bytes"),
-            LineFault::NoFounder { .. } => {
-                write!(
-                    f,
-                    "line {line}: a line first NAME stands before the first action"
-                )
-            }
-            LineFault::SecondFounder { .. } => {
-                write!(
-                    f,
-                    "line {line}: there is one line first NAME, and this is the second"
-                )
-            }
-            _ => Ok(()),
-        }
-    }
-
     /// A limit that is passed: of lines, where the place is the beginning of one, or of what stands there.
     fn explain_limit<W: fmt::Write>(
         &self,
@@ -139,7 +124,7 @@ impl Explained<'_> {
         column: u32,
     ) -> fmt::Result {
         if column == 0 {
-            return write!(f, "line {line}: a scenario has at most 10,000 lines");
+            return explain_line(f, line, "a scenario has at most 10,000 lines");
         }
         let at = self.at(line, column);
         let expected = at.expected();
@@ -167,9 +152,19 @@ impl Explained<'_> {
 impl fmt::Display for Explained<'_> {
     fn fmt<W: fmt::Write>(&self, f: &mut fmt::Formatter<W>) -> fmt::Result {
         match *self.fault {
-            LineFault::TooLong { line }
-            | LineFault::NoFounder { line }
-            | LineFault::SecondFounder { line } => self.explain_line(f, line),
+            LineFault::TooLong { line } => {
+                explain_line(f, line, "a line has at most 9,000 bytes")
+            }
+            LineFault::NoFounder { line } => explain_line(
+                f,
+                line,
+                "a line first NAME stands before the first action",
+            ),
+            LineFault::SecondFounder { line } => explain_line(
+                f,
+                line,
+                "there is one line first NAME, and this is the second",
+            ),
             LineFault::Count { line, found } => self.explain_count(f, line, found),
             LineFault::NotText { line, place } => {
                 self.at(line, place)
