@@ -122,9 +122,9 @@ fn on_message(
             tombs,
         } => on_grant(node, alloc, from, *attempt, manifest, tombs),
         Message::Deny { attempt, why } => on_deny(node, alloc, from, *attempt, *why),
-        Message::Release { attempt } => Ok(on_release(node, alloc, from, *attempt)),
-        Message::Confirm { attempt } => Ok(on_confirm(node, alloc, from, *attempt)),
-        Message::Announce => Ok(on_announce(alloc, from)),
+        Message::Release { attempt } => on_release(node, alloc, from, *attempt),
+        Message::Confirm { attempt } => on_confirm(node, alloc, from, *attempt),
+        Message::Announce => on_announce(alloc, from),
     }
 }
 

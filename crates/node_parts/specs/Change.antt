@@ -8,7 +8,9 @@ use Rattle.overlay_rules.specs.State.{State, Lease, Phase, Ready}
 use Rattle.overlay_rules.specs.Roots.{with_ask, is_of}
 use Rattle.overlay_rules.specs.Gatekeeper.{is_left_to}
 use Rattle.past_core.specs.Waits.{taken_out, heard_at}
+use Rattle.std.specs.Global.{Box}
 use Rattle.node_parts.specs.declared.change.Change.{Change}
+use Rattle.node_parts.specs.declared.change.Rest.{Rest}
 use Rattle.node_parts.specs.declared.change.SeatChange.{SeatChange}
 use Rattle.node_parts.specs.declared.change.SeatChange.TheVariants as seat
 use Rattle.node_parts.specs.declared.change.GateChange.{GateChange}
@@ -66,15 +68,21 @@ waiting_after (wait.Take n) ns = filter (λ m. not (m == n)) ns
 abbrev pub waited : Wait → State → State
 waited w s = record s { waiting = waiting_after w s.waiting }
 
-abbrev pub changed : Change → State → State
-changed c s =
-    record {
-      me = s.me;
-      phase = phase_after c.seat s.phase;
-      left_gate = gate_after c.left_gate s.left_gate;
-      right_gate = gate_after c.right_gate s.right_gate;
-      known = known_after s.me c.learn s.known;
-      files = files_after c.store s.files;
-      pending = pending_after c.past s.pending;
-      waiting = waiting_after c.waiting s.waiting;
+-- all but what waits
+abbrev pub rest_changed : Rest → State → State
+rest_changed r s =
+    record s {
+      phase = phase_after r.seat s.phase;
+      left_gate = gate_after r.left_gate s.left_gate;
+      right_gate = gate_after r.right_gate s.right_gate;
+      known = known_after s.me r.learn s.known;
+      files = files_after r.store s.files;
+      pending = pending_after r.past s.pending;
     }
+
+abbrev pub rest_after : Option (Box Rest) → State → State
+rest_after None s = s
+rest_after (Some r) s = rest_changed r.value s
+
+abbrev pub changed : Change → State → State
+changed c s = waited c.waiting (rest_after c.rest s)

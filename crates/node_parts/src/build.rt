@@ -8,12 +8,12 @@ ghost use Rattle.overlay_rules.specs.declared.request.Asked.TheVariants as asked
 ghost use Rattle.wire_msg.specs.Words.{plain};
 ghost use Rattle.wire_msg.specs.declared.note.Note.TheVariants as note;
 ghost use Rattle.wire_msg.specs.declared.reply.Reply.TheVariants as reply;
-ghost use Rattle.node_parts.specs.Change.{changed, waited, phase_after, known_after, files_after, pending_after, gate_after};
+ghost use Rattle.node_parts.specs.Change.{changed, rest_changed, waited, phase_after, known_after, files_after, pending_after, gate_after};
 ghost use Rattle.node_parts.specs.Plans.{Plans};
 ghost use Rattle.node_parts.specs.Seats.{phase_to, granted_phase};
 
 use crate::change::{
-    Change, GateChange, Handed, Learn, PastChange, Prepared, SeatChange, StoreChange, Wait,
+    Change, GateChange, Handed, Learn, PastChange, Prepared, Rest, SeatChange, StoreChange, Wait,
 };
 use crate::lease::Lists;
 use join_core::Joiner;
@@ -28,12 +28,7 @@ impl Change {
         ensures { (s : State) → changed result s ≡ waited waiting s }
     {
         Change {
-            seat: SeatChange::Keep,
-            left_gate: GateChange::Keep,
-            right_gate: GateChange::Keep,
-            learn: Learn::Nothing,
-            store: StoreChange::Keep,
-            past: PastChange::Keep,
+            rest: None,
             waiting,
         }
     }
@@ -45,19 +40,30 @@ impl Change {
         Change::waits(Wait::Keep)
     }
 
-    /// The phase, and what is learnt.
-    pub fn seats(seat: SeatChange, learn: Learn) -> Change
-        ensures { (s : State) → changed result s ≡ record s { phase = phase_after seat s.phase; known = known_after s.me learn s.known } }
+    /// The rest, and what waits.
+    pub fn of(alloc: Global, rest: Rest, waiting: Wait) -> Result<Change, OutOfMemory>
+        ensures { (s : State) → IfOk result (λ change. changed change s ≡ waited waiting (rest_changed rest s)) }
     {
-        Change {
+        let rest = Box::new(alloc, rest)?;
+        Ok(Change {
+            rest: Some(rest),
+            waiting,
+        })
+    }
+
+    /// The phase, and what is learnt.
+    pub fn seats(alloc: Global, seat: SeatChange, learn: Learn) -> Result<Change, OutOfMemory>
+        ensures { (s : State) → IfOk result (λ change. changed change s ≡ record s { phase = phase_after seat s.phase; known = known_after s.me learn s.known }) }
+    {
+        let rest = Rest {
             seat,
             left_gate: GateChange::Keep,
             right_gate: GateChange::Keep,
             learn,
             store: StoreChange::Keep,
             past: PastChange::Keep,
-            waiting: Wait::Keep,
-        }
+        };
+        Change::of(alloc, rest, Wait::Keep)
     }
 
     /// The join goes on to this, and what is learnt.
@@ -65,22 +71,26 @@ impl Change {
         ensures { (s : State) → IfOk result (λ change. changed change s ≡ record s { phase = phase_to joiner s.phase; known = known_after s.me learn s.known }) }
     {
         let boxed = Box::new(alloc, joiner)?;
-        Ok(Change::seats(SeatChange::To(boxed), learn))
+        Change::seats(alloc, SeatChange::To(boxed), learn)
     }
 
     /// The phase, and the files.
-    pub fn seats_and_files(seat: SeatChange, store: StoreChange) -> Change
-        ensures { (s : State) → changed result s ≡ record s { phase = phase_after seat s.phase; files = files_after store s.files } }
+    pub fn seats_and_files(
+        alloc: Global,
+        seat: SeatChange,
+        store: StoreChange,
+    ) -> Result<Change, OutOfMemory>
+        ensures { (s : State) → IfOk result (λ change. changed change s ≡ record s { phase = phase_after seat s.phase; files = files_after store s.files }) }
     {
-        Change {
+        let rest = Rest {
             seat,
             left_gate: GateChange::Keep,
             right_gate: GateChange::Keep,
             learn: Learn::Nothing,
             store,
             past: PastChange::Keep,
-            waiting: Wait::Keep,
-        }
+        };
+        Change::of(alloc, rest, Wait::Keep)
     }
 
     /// What neighbours hand over is kept, and the files.
@@ -93,37 +103,46 @@ impl Change {
         ensures { (s : State) → IfOk result (λ change. changed change s ≡ record s { phase = granted_phase left right s.phase; files = files_after store s.files }) }
     {
         let handed = Box::new(alloc, Handed { left, right })?;
-        Ok(Change::seats_and_files(SeatChange::Granted(handed), store))
+        Change::seats_and_files(alloc, SeatChange::Granted(handed), store)
     }
 
     /// The gates.
-    pub fn gates(left_gate: GateChange, right_gate: GateChange) -> Change
-        ensures { (s : State) → changed result s ≡ record s { left_gate = gate_after left_gate s.left_gate; right_gate = gate_after right_gate s.right_gate } }
+    pub fn gates(
+        alloc: Global,
+        left_gate: GateChange,
+        right_gate: GateChange,
+    ) -> Result<Change, OutOfMemory>
+        ensures { (s : State) → IfOk result (λ change. changed change s ≡ record s { left_gate = gate_after left_gate s.left_gate; right_gate = gate_after right_gate s.right_gate }) }
     {
-        Change {
+        let rest = Rest {
             seat: SeatChange::Keep,
             left_gate,
             right_gate,
             learn: Learn::Nothing,
             store: StoreChange::Keep,
             past: PastChange::Keep,
-            waiting: Wait::Keep,
-        }
+        };
+        Change::of(alloc, rest, Wait::Keep)
     }
 
     /// The files, the inserts that wait, and the numbers that do.
-    pub fn files(store: StoreChange, past: PastChange, waiting: Wait) -> Change
-        ensures { (s : State) → changed result s ≡ record (waited waiting s) { files = files_after store s.files; pending = pending_after past s.pending } }
+    pub fn files(
+        alloc: Global,
+        store: StoreChange,
+        past: PastChange,
+        waiting: Wait,
+    ) -> Result<Change, OutOfMemory>
+        ensures { (s : State) → IfOk result (λ change. changed change s ≡ record (waited waiting s) { files = files_after store s.files; pending = pending_after past s.pending }) }
     {
-        Change {
+        let rest = Rest {
             seat: SeatChange::Keep,
             left_gate: GateChange::Keep,
             right_gate: GateChange::Keep,
             learn: Learn::Nothing,
             store,
             past,
-            waiting,
-        }
+        };
+        Change::of(alloc, rest, waiting)
     }
 }
 

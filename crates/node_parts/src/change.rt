@@ -15,7 +15,7 @@ pub struct Handed {
     pub right: Option<Lists>,
 }
 
-/// What becomes of the phase. What few steps need is boxed here and below, so that a change stays small.
+/// What becomes of the phase.
 #[derive(Drop)]
 pub enum SeatChange {
     Keep,
@@ -78,15 +78,22 @@ pub enum Wait {
     Take { number: u64 },
 }
 
-/// What a step changes of a node.
+/// What a step changes of a node besides the numbers that wait.
 #[derive(Drop)]
-pub struct Change {
+pub struct Rest {
     pub seat: SeatChange,
     pub left_gate: GateChange,
     pub right_gate: GateChange,
     pub learn: Learn,
     pub store: StoreChange,
     pub past: PastChange,
+}
+
+/// What a step changes of a node. Most steps change the numbers that wait at most, so the rest is boxed: a change is moved
+/// often, and is to be small.
+#[derive(Drop)]
+pub struct Change {
+    pub rest: Option<Box<Rest>>,
     pub waiting: Wait,
 }
 

@@ -3,12 +3,14 @@
 ghost use Rattle.std.specs.Prelude.{◌≡◌, ◌≤◌, ◌+◌, ℕ, List, length, vec_len, vec_capacity, filter, not, ◌==◌};
 ghost use Rattle.lookup_core.specs.Kept.{StandsFor};
 ghost use Rattle.overlay_rules.specs.State.{State};
-ghost use Rattle.node_parts.specs.Change.{changed, phase_after, gate_after, known_after, files_after, pending_after, waiting_after};
-ghost use Rattle.node_parts.specs.Fits.{Fits, StoreFits, asks_more, waits_more};
+ghost use Rattle.node_parts.specs.Change.{changed, waited, rest_changed, phase_after, gate_after, known_after, files_after, pending_after, waiting_after};
+ghost use Rattle.node_parts.specs.Fits.{Fits, RestFits, StoreFits, asks_more, waits_more};
 ghost use Rattle.node_parts.specs.Seen.{Stands};
 ghost use Rattle.node_parts.specs.Sound.{IsSound};
 
-use crate::change::{Change, GateChange, Handed, Learn, PastChange, SeatChange, StoreChange, Wait};
+use crate::change::{
+    Change, GateChange, Handed, Learn, PastChange, Rest, SeatChange, StoreChange, Wait,
+};
 use crate::lease::Lease;
 use crate::node::Node;
 use crate::seat::Seat;
@@ -119,21 +121,42 @@ impl Node {
         ensures me { self.new.me ≡ self.old.me }
         ensures stands { (s t : State) → Stands self.old s → changed change s ≡ t → IsSound t → Stands self.new t }
     {
-        let Change {
+        let Change { rest, waiting } = change;
+        self.commit_waiting(waiting);
+        if let Some(rest) = rest {
+            self.commit_rest(Box::into_inner(rest));
+        }
+    }
+
+    fn commit_waiting(&mut self, waiting: Wait)
+        requires { vec_len self.old.waiting + waits_more waiting ≤ vec_capacity self.old.waiting }
+        ensures me { self.new.me ≡ self.old.me }
+        ensures store { self.new.store ≡ self.old.store }
+        ensures past { self.new.past ≡ self.old.past }
+        ensures stands { (s : State) → Stands self.old s → Stands self.new (waited waiting s) }
+    {
+        change_waiting(&mut self.waiting, waiting);
+    }
+
+    /// All is changed but what waits.
+    fn commit_rest(&mut self, rest: Rest)
+        requires { RestFits self.old rest }
+        ensures me { self.new.me ≡ self.old.me }
+        ensures stands { (s t : State) → Stands self.old s → rest_changed rest s ≡ t → IsSound t → Stands self.new t }
+    {
+        let Rest {
             seat,
             left_gate,
             right_gate,
             learn: learnt,
             store,
             past,
-            waiting,
-        } = change;
+        } = rest;
         change_seat(&mut self.seat, seat);
         change_gate(&mut self.left_gate, left_gate);
         change_gate(&mut self.right_gate, right_gate);
         learn(&mut self.known, learnt);
         change_store(&mut self.store, store);
         change_past(&mut self.past, past);
-        change_waiting(&mut self.waiting, waiting);
     }
 }

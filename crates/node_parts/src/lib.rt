@@ -17,7 +17,7 @@ pub use build::{
     sent_to_both,
 };
 pub use change::{
-    Change, GateChange, Handed, Learn, PastChange, Prepared, SeatChange, StoreChange, Wait,
+    Change, GateChange, Handed, Learn, PastChange, Prepared, Rest, SeatChange, StoreChange, Wait,
 };
 pub use lease::{Lease, Lists, bare, joiner_of};
 pub use node::Node;

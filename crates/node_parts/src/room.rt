@@ -2,10 +2,10 @@
 
 ghost use Rattle.std.specs.Prelude.{◌≡◌, ◌≤◌, ◌+◌, OnOk, length, vec_len, vec_capacity};
 ghost use Rattle.overlay_rules.specs.State.{State};
-ghost use Rattle.node_parts.specs.Fits.{Fits, StoreFits, asks_more, waits_more};
+ghost use Rattle.node_parts.specs.Fits.{Fits, RestFits, StoreFits, asks_more, waits_more};
 ghost use Rattle.node_parts.specs.Seen.{Stands};
 
-use crate::change::{Change, PastChange, StoreChange, Wait};
+use crate::change::{Change, PastChange, Rest, StoreChange, Wait};
 use crate::node::Node;
 use file_store::FileStore;
 use ring_math::OutOfMemory;
@@ -46,9 +46,20 @@ impl Node {
         ensures stands { (s : State) → Stands self.old s → Stands self.new s }
         ensures fits { OnOk result (Fits self.new change.now) }
     {
-        make_store_room(&mut self.store, &change.store)?;
-        self.past.reserve(more_asks(&change.past))?;
+        if let Some(rest) = &change.rest {
+            self.make_rest_room(rest)?;
+        }
         self.waiting.reserve(more_waiting(&change.waiting))?;
         Ok(())
+    }
+
+    /// Makes room in the files and in the inserts that wait.
+    fn make_rest_room(&mut self, rest: &Rest) -> Result<(), OutOfMemory>
+        ensures me { self.new.me ≡ self.old.me }
+        ensures stands { (s : State) → Stands self.old s → Stands self.new s }
+        ensures fits { OnOk result (RestFits self.new rest.now) }
+    {
+        make_store_room(&mut self.store, &rest.store)?;
+        self.past.reserve(more_asks(&rest.past))
     }
 }

@@ -46,6 +46,13 @@ impl Sends {
         self.items.push(item)?;
         Ok(())
     }
+
+    /// The messages themselves, which need not be copied then.
+    pub fn into_items(self) -> Vec<Outgoing>
+        ensures { map plain_sent result.items ≡ self }
+    {
+        self.items
+    }
 }
 
 /// What a step notes.
@@ -109,6 +116,13 @@ impl Envelopes {
         Envelopes {
             items: Vec::new(alloc),
         }
+    }
+
+    /// These, in this order. It takes no memory.
+    pub fn of(items: Vec<Envelope>) -> Envelopes
+        ensures { result ≡ map plain_envelope items.items }
+    {
+        Envelopes { items }
     }
 
     pub fn as_slice(&self) -> &[Envelope]

@@ -139,6 +139,6 @@ fn notes_and_sends_are_kept_in_order(rt: HostRuntime) -> Result<(), Fail> {
         assert_eq!(rt; sent.receiver, Id(8));
         assert!(rt; matches!(&sent.message, Message::Announce));
     }
-    assert_eq!(rt; sends.as_slice().len(), 1);
+    assert_eq!(rt; sends.into_items().len(), 1);
     Ok(())
 }

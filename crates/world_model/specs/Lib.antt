@@ -2,5 +2,6 @@ pub mod Recorded
 pub mod Numbers
 pub mod Stamps
 pub mod Cells
+pub mod Envelopes
 pub mod Index
 pub mod Worlds

@@ -2,28 +2,42 @@
 
 ghost use Rattle.std.specs.Prelude.{◌≡◌, IfOk, map};
 ghost use Rattle.overlay_rules.specs.Record.{enveloped};
+ghost use Rattle.world_model.specs.Envelopes.{in_envelope};
 
 use ring_math::{Id, OutOfMemory};
 use std::alloc::Global;
-use wire_msg::{Envelope, Envelopes, Sends};
+use wire_msg::{Envelope, Envelopes, Outgoing, Sends};
 
 /// Each message in an envelope from this sender, with this stamp.
 pub(crate) fn envelopes_of(
     alloc: Global,
     stamp: u64,
     sender: Id,
-    sends: &Sends,
+    sends: Sends,
 ) -> Result<Envelopes, OutOfMemory>
-    ensures { IfOk result (λ envelopes. envelopes ≡ map (enveloped stamp sender) sends.now) }
+    ensures { IfOk result (λ envelopes. envelopes ≡ map (enveloped stamp sender) sends) }
 {
-    let mut envelopes = Envelopes::new(alloc);
-    for outgoing in sends.as_slice() {
-        envelopes.push(Envelope {
+    let envelopes = each_in_envelope(alloc, stamp, sender, sends.into_items())?;
+    Ok(Envelopes::of(envelopes))
+}
+
+/// The messages are moved, and not copied.
+fn each_in_envelope(
+    alloc: Global,
+    stamp: u64,
+    sender: Id,
+    messages: Vec<Outgoing>,
+) -> Result<Vec<Envelope>, OutOfMemory>
+    ensures { IfOk result (λ envelopes. envelopes.items ≡ map (in_envelope stamp sender) messages.items) }
+{
+    let envelopes = messages
+        .into_iter()
+        .map(|sent| Envelope {
             sender,
-            receiver: outgoing.receiver,
+            receiver: sent.receiver,
             stamp,
-            message: outgoing.message.copy(alloc)?,
-        })?;
-    }
+            message: sent.message,
+        })
+        .collect(alloc)?;
     Ok(envelopes)
 }

@@ -40,7 +40,7 @@ pub(crate) fn plan(
         notes,
         change,
     } = cells.prepare(place, alloc, input)?;
-    let messages = envelopes_of(alloc, stamp, cells.id(place), &messages)?;
+    let messages = envelopes_of(alloc, stamp, cells.id(place), messages)?;
     Ok(Planned {
         change,
         entry: Entry {

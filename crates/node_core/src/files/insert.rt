@@ -100,10 +100,11 @@ fn replicating(
         awaited,
     };
     let past = PastChange::Add(Box::new(alloc, pending)?);
+    let change = Change::files(alloc, store, past, wait)?;
     Ok(Prepared {
         messages,
         notes,
-        change: Change::files(store, past, wait),
+        change,
     })
 }
 
@@ -165,7 +166,7 @@ fn answered(
             let first = Prepared {
                 messages: Sends::new(alloc),
                 notes,
-                change: Change::files(store, PastChange::Keep, wait),
+                change: Change::files(alloc, store, PastChange::Keep, wait)?,
             };
             replied_after(alloc, first, Asked::Insert, origin, number, reply)
         }

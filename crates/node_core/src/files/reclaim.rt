@@ -41,18 +41,23 @@ fn notes_of(alloc: Global, what: ReclaimWhat, file: &FileId) -> Result<Notes, Ou
 }
 
 /// What the reclaim changes. Bytes are turned into a tombstone only where the file has an entry.
-fn change_of(what: ReclaimWhat, file: &FileId, wait: Wait) -> Change
+fn change_of(
+    alloc: Global,
+    what: ReclaimWhat,
+    file: &FileId,
+    wait: Wait,
+) -> Result<Change, OutOfMemory>
     ensures { (s : State) → (what ≡ ReclaimWhat.Reclaimed → has_entry s.files file.now ≡ true) →
-        changed result s ≡ after_reclaim (waited wait s) file.now what }
+        IfOk result (λ change. changed change s ≡ after_reclaim (waited wait s) file.now what) }
 {
     match what {
-        ReclaimWhat::NotFound | ReclaimWhat::Already => Change::waits(wait),
+        ReclaimWhat::NotFound | ReclaimWhat::Already => Ok(Change::waits(wait)),
         ReclaimWhat::Reclaimed => {
             let store = StoreChange::Set {
                 file: *file,
                 slot: None,
             };
-            Change::files(store, PastChange::End { file: *file }, wait)
+            Change::files(alloc, store, PastChange::End { file: *file }, wait)
         }
     }
 }
@@ -78,10 +83,11 @@ fn reclaim_here(
         &mut messages,
         &mut notes,
     )?;
+    let change = change_of(alloc, step.what, file, wait)?;
     let first = Prepared {
         messages,
         notes,
-        change: change_of(step.what, file, wait),
+        change,
     };
     replied_after(
         alloc,

@@ -58,7 +58,7 @@ pub(crate) fn on_replicate(
                 file: *file,
                 slot: Some(bytes.copy(alloc)?),
             };
-            let change = Change::files(store, PastChange::Keep, Wait::Keep);
+            let change = Change::files(alloc, store, PastChange::Keep, Wait::Keep)?;
             acknowledged(alloc, change, from, origin, number, file)
         }
         Put::Same => acknowledged(alloc, Change::nothing(), from, origin, number, file),
@@ -97,7 +97,7 @@ fn stored(
     match holders {
         Some(all) => {
             let past = PastChange::TakeOut { place };
-            let change = Change::files(StoreChange::Keep, past, Wait::Keep);
+            let change = Change::files(alloc, StoreChange::Keep, past, Wait::Keep)?;
             replied(
                 alloc,
                 change,
@@ -129,7 +129,8 @@ pub(crate) fn on_replica_ack(
         Ack::Unknown => Ok(quietly(alloc, Change::nothing())),
         Ack::Heard { place, awaited } => {
             let past = PastChange::Hear { place, awaited };
-            Ok(quietly(alloc, Change::files(StoreChange::Keep, past, Wait::Keep)))
+            let change = Change::files(alloc, StoreChange::Keep, past, Wait::Keep)?;
+            Ok(quietly(alloc, change))
         }
         Ack::Last { place } => stored(node, alloc, place, origin, number),
     }

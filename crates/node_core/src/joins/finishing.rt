@@ -5,6 +5,7 @@ ghost use Rattle.ring_math.specs.declared.file.Held.{Held};
 ghost use Rattle.ring_math.specs.Files.{with_slot, has_room, buried_all};
 ghost use Rattle.overlay_rules.specs.State.{State, Leasing};
 ghost use Rattle.overlay_rules.specs.Joining.{on_grant as on_grant_of, kept_first};
+ghost use Rattle.overlay_rules.specs.Outcome.{nothing};
 ghost use Rattle.overlay_rules.specs.ReadyTest.{readied as readied_of, ready_test as ready_test_of};
 ghost use Rattle.overlay_rules.specs.Replicas.{holding};
 ghost use Rattle.overlay_rules.specs.Step.{on_announce as on_announce_of};
@@ -26,10 +27,11 @@ use std::alloc::Global;
 use wire_msg::{Answer, Message};
 
 /// An Announce: the sender is learnt.
-pub(crate) fn on_announce(alloc: Global, from: Id) -> Prepared
-    ensures { (s : State) → Plans s result (on_announce_of s from) }
+pub(crate) fn on_announce(alloc: Global, from: Id) -> Result<Prepared, OutOfMemory>
+    ensures { (s : State) → IfOk result (λ p. Plans s p (on_announce_of s from)) }
 {
-    quietly(alloc, Change::seats(SeatChange::Keep, Learn::One(from)))
+    let change = Change::seats(alloc, SeatChange::Keep, Learn::One(from))?;
+    Ok(quietly(alloc, change))
 }
 
 /// The join is done: both leases are confirmed, and the leaves are told. These files change with it.
@@ -53,14 +55,9 @@ fn readied(
         left,
         right,
     };
+    let change = Change::seats_and_files(alloc, seat, store)?;
     let answer = Answer::Joined { left, right };
-    closing(
-        alloc,
-        Change::seats_and_files(seat, store),
-        messages,
-        number,
-        answer,
-    )
+    closing(alloc, change, messages, number, answer)
 }
 
 /// Whether a side has handed over, and the store will have all of it once this file is put.
@@ -101,7 +98,7 @@ pub(crate) fn ready_with_file(
         slot: Some(bytes.copy(alloc)?),
     };
     if !is_complete_with(node, file) {
-        return Ok(quietly(alloc, Change::seats_and_files(SeatChange::Keep, store)));
+        return keeping_file(alloc, store);
     }
     match node.seat.joiner() {
         Joiner::Leasing {
@@ -111,8 +108,16 @@ pub(crate) fn ready_with_file(
             right,
             ..
         } => readied(node, alloc, store, attempt.get(), *number, *left, *right),
-        _ => Ok(quietly(alloc, Change::seats_and_files(SeatChange::Keep, store))),
+        _ => keeping_file(alloc, store),
     }
+}
+
+/// The files change, and the join goes on as it is.
+fn keeping_file(alloc: Global, store: StoreChange) -> Result<Prepared, OutOfMemory>
+    ensures { (s : State) → IfOk result (λ p. Plans s p (nothing (files_set store s))) }
+{
+    let change = Change::seats_and_files(alloc, SeatChange::Keep, store)?;
+    Ok(quietly(alloc, change))
 }
 
 /// A Grant.

@@ -1,6 +1,6 @@
 //! What becomes of a gate: it is released, confirmed, or taken away for a newer attempt.
 
-ghost use Rattle.std.specs.Prelude.{◌≡◌, List, ℕ, []};
+ghost use Rattle.std.specs.Prelude.{◌≡◌, IfOk, List, ℕ, []};
 ghost use Rattle.overlay_rules.specs.State.{State, Ready, attempt_of};
 ghost use Rattle.overlay_rules.specs.Gates.{is_of, is_older};
 ghost use Rattle.overlay_rules.specs.Gatekeeper.{unless_lease, links_of as links_of_state, on_release as on_release_of, on_confirm as on_confirm_of, cleared};
@@ -10,10 +10,10 @@ ghost use Rattle.node_parts.specs.Plans.{Plans};
 
 use gate_core::Links;
 use node_parts::{
-    Change, GateChange, Learn, Lease, Node, PastChange, Prepared, SeatChange, StoreChange, Wait,
-    bare, quietly,
+    Change, GateChange, Learn, Lease, Node, PastChange, Prepared, Rest, SeatChange, StoreChange,
+    Wait, bare, quietly,
 };
-use ring_math::Id;
+use ring_math::{Id, OutOfMemory};
 use std::alloc::Global;
 
 /// Takes the gate away where it is this joiner's with this attempt.
@@ -53,10 +53,16 @@ pub(crate) fn links_of(node: &Node, left: Id, right: Id) -> Links
 }
 
 /// The joiner's gates of older attempts are taken away.
-pub(crate) fn clearing(node: &Node, joiner: Id, attempt: u32) -> Change
-    ensures { (known : List ℕ) → changed result (seen node.now known) ≡ cleared (seen node.now known) joiner attempt }
+pub(crate) fn clearing(
+    node: &Node,
+    alloc: Global,
+    joiner: Id,
+    attempt: u32,
+) -> Result<Change, OutOfMemory>
+    ensures { (known : List ℕ) → IfOk result (λ change. changed change (seen node.now known) ≡ cleared (seen node.now known) joiner attempt) }
 {
     Change::gates(
+        alloc,
         without_older(&node.left_gate, joiner, attempt),
         without_older(&node.right_gate, joiner, attempt),
     )
@@ -64,20 +70,31 @@ pub(crate) fn clearing(node: &Node, joiner: Id, attempt: u32) -> Change
 
 /// A Release: each gate that is the sender's with this attempt is taken away.
 #[inline(never)]
-pub(crate) fn on_release(node: &Node, alloc: Global, from: Id, attempt: u32) -> Prepared
-    ensures { (known : List ℕ) → Plans (seen node.now known) result (on_release_of (seen node.now known) from attempt) }
+pub(crate) fn on_release(
+    node: &Node,
+    alloc: Global,
+    from: Id,
+    attempt: u32,
+) -> Result<Prepared, OutOfMemory>
+    ensures { (known : List ℕ) → IfOk result (λ p. Plans (seen node.now known) p (on_release_of (seen node.now known) from attempt)) }
 {
     let change = Change::gates(
+        alloc,
         without(&node.left_gate, from, attempt),
         without(&node.right_gate, from, attempt),
-    );
-    quietly(alloc, change)
+    )?;
+    Ok(quietly(alloc, change))
 }
 
 /// A Confirm: the sender becomes the link of each side whose gate is its with this attempt.
 #[inline(never)]
-pub(crate) fn on_confirm(node: &Node, alloc: Global, from: Id, attempt: u32) -> Prepared
-    ensures { (known : List ℕ) → Plans (seen node.now known) result (on_confirm_of (seen node.now known) from attempt) }
+pub(crate) fn on_confirm(
+    node: &Node,
+    alloc: Global,
+    from: Id,
+    attempt: u32,
+) -> Result<Prepared, OutOfMemory>
+    ensures { (known : List ℕ) → IfOk result (λ p. Plans (seen node.now known) p (on_confirm_of (seen node.now known) from attempt)) }
 {
     match node.seat.links() {
         Some(links) => confirmed(
@@ -87,33 +104,39 @@ pub(crate) fn on_confirm(node: &Node, alloc: Global, from: Id, attempt: u32) -> 
             from,
             attempt,
         ),
-        None => quietly(alloc, Change::nothing()),
+        None => Ok(quietly(alloc, Change::nothing())),
     }
 }
 
 /// The same with the links of a ready node.
-fn confirmed(node: &Node, alloc: Global, links: &Links, from: Id, attempt: u32) -> Prepared
+fn confirmed(
+    node: &Node,
+    alloc: Global,
+    links: &Links,
+    from: Id,
+    attempt: u32,
+) -> Result<Prepared, OutOfMemory>
     requires ready { node.now.seat ≡ Ready (attempt_of node.now.seat) links.now.left links.now.right }
     requires links { links.now ≡ links_of_state (seen node.now []) links.now.left links.now.right }
-    ensures { (known : List ℕ) → Plans (seen node.now known) result (on_confirm_of (seen node.now known) from attempt) }
+    ensures { (known : List ℕ) → IfOk result (λ p. Plans (seen node.now known) p (on_confirm_of (seen node.now known) from attempt)) }
 {
     let mut after = *links;
     if !after.confirm(node.me, from, attempt) {
-        return quietly(alloc, Change::nothing());
+        return Ok(quietly(alloc, Change::nothing()));
     }
     let seat = SeatChange::Ready {
         attempt: node.seat.joiner().attempt(),
         left: after.left,
         right: after.right,
     };
-    let change = Change {
+    let rest = Rest {
         seat,
         left_gate: without(&node.left_gate, from, attempt),
         right_gate: without(&node.right_gate, from, attempt),
         learn: Learn::One(from),
         store: StoreChange::Keep,
         past: PastChange::Keep,
-        waiting: Wait::Keep,
     };
-    quietly(alloc, change)
+    let change = Change::of(alloc, rest, Wait::Keep)?;
+    Ok(quietly(alloc, change))
 }

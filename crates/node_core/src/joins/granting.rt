@@ -14,8 +14,8 @@ use coverage::Reach;
 use file_store::FileStore;
 use gate_core::Gate;
 use node_parts::{
-    Change, GateChange, Learn, Lease, Lists, Node, PastChange, Prepared, SeatChange, StoreChange,
-    Wait,
+    Change, GateChange, Learn, Lease, Lists, Node, PastChange, Prepared, Rest, SeatChange,
+    StoreChange, Wait,
 };
 use replica_handover::{in_gap, tombs_in_gap};
 use ring_math::{FileId, Id, OutOfMemory};
@@ -132,7 +132,7 @@ pub(crate) fn open(
     let on_right = node.me == gate.left;
     let right_gate = set_gate(alloc, on_right, gate, &lists, &node.right_gate)?;
     let gap = Box::new(alloc, *reach)?;
-    let change = Change {
+    let rest = Rest {
         seat: SeatChange::Keep,
         left_gate,
         right_gate,
@@ -142,8 +142,8 @@ pub(crate) fn open(
             reach: gap,
             joiner: gate.joiner,
         },
-        waiting: Wait::Keep,
     };
+    let change = Change::of(alloc, rest, Wait::Keep)?;
     Ok(Prepared {
         messages,
         notes,

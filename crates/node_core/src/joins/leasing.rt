@@ -69,7 +69,7 @@ fn denied(node: &Node, alloc: Global, request: &Gate, why: Why) -> Result<Prepar
     ensures { (known : List ℕ) → IfOk result (λ p. Plans (seen node.now known) p
         (deny_of (cleared (seen node.now known) request.now.joiner request.now.attempt) request.now.joiner request.now.attempt why)) }
 {
-    let change = clearing(node, request.joiner, request.attempt);
+    let change = clearing(node, alloc, request.joiner, request.attempt)?;
     let denial = Message::Deny {
         attempt: request.attempt,
         why,

@@ -9,8 +9,8 @@ use Rattle.node_parts.specs.Plans.{Plans}
 use Rattle.node_core.proofs.Answered.{said-reply, none-pending}
 use Rattle.node_core.proofs.files.insert.answered.Goals as goal
 
-pub returns-in-Ok : goal.returns-in-Ok
-returns-in-Ok c = λ s m.
+pub returns-in_ok-files-in-Ok : goal.returns-in_ok-files-in-Ok
+returns-in_ok-files-in-Ok c = λ s m.
     let t : Option Pending → State =
     λ x. record (waited c.args.wait s) { files = files_after c.args.store s.files; pending = with_added s.pending x } in
     let said_in : State → Outcome =
@@ -21,4 +21,4 @@ returns-in-Ok c = λ s m.
     (ap (λ (ms : List Sent). before ms c.args.notes (replied (t None) asked.Insert c.args.origin c.args.number c.in-Ok.reply)) c.new.ensures
     ∙ ap (before [] c.args.notes) at_once
     ∙ ap (λ (x : Option Pending). said_in (t x)) (none-pending c.args.me c.args.origin c.args.number c.args.file.now c.args.what c.in-Ok.reply c.in-Ok.ensures.reply))
-    (c.replied_after.ensures s _ (c.files.ensures s))
+    (c.replied_after.ensures s _ (c.in_ok-files-in-Ok.ensures s))

@@ -25,4 +25,4 @@ returns c = λ known h.
     (c.in_ok-reply_each.ensures.messages t ∙ ap (λ (ms : List Sent). ms ++ (replied_asks t gone step.ended).sends) c.new-messages.ensures)
     (c.in_ok-reply_each.ensures.notes t ∙ ap (λ (ns : List Note). ns ++ (replied_asks t gone step.ended).notes) c.in_ok-notes.ensures)
     c.reply_of.ensures
-    (c.replied_after.ensures s t (c.change_of.ensures s (λ e. entry-buried c.args.node.now.store.files c.args.file.now (c.in_ok-step.ensures.held e)))))
+    (c.replied_after.ensures s t (c.in_ok-change.ensures s (λ e. entry-buried c.args.node.now.store.files c.args.file.now (c.in_ok-step.ensures.held e)))))

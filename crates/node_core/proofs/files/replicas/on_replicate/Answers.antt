@@ -11,8 +11,8 @@ use Rattle.node_core.proofs.Storing.{room-new, set-room}
 use Rattle.node_core.proofs.Replicas.{replicate-at, replica-other}
 use Rattle.node_core.proofs.files.replicas.on_replicate.Goals as goal
 
-pub returns-in_ok-copy-in-New : goal.returns-in_ok-copy-in-New
-returns-in_ok-copy-in-New c = λ known h.
+pub returns-in_ok-change-in-New : goal.returns-in_ok-change-in-New
+returns-in_ok-change-in-New c = λ known h.
     let s : State = seen c.args.node.now known in
     let files : List Held = c.args.node.now.store.files in
     let put_in : set_in files c.args.file.now (Some c.in_ok-copy-in-New.field-0) ≡ with_slot files c.args.file.now (Some c.args.bytes.now) =
@@ -20,7 +20,7 @@ returns-in_ok-copy-in-New c = λ known h.
     ∙ set-room files c.args.file.now (Some c.args.bytes.now) (room-new files c.args.file.now c.args.bytes.now (sym c.in-New.ensures)) in
     replicate-at (λ (o : Outcome). IfOk c.acknowledged.result (λ p. Plans s p o)) s c.args.from c.args.origin c.args.number c.args.file.now c.args.bytes.now put.New
     c.in-New.ensures
-    (c.acknowledged.ensures s _ (c.files-change.ensures s ∙ ap (λ (hs : List Held). record s { files = hs }) put_in))
+    (c.acknowledged.ensures s _ (c.in_ok-change-in-New.ensures s ∙ ap (λ (hs : List Held). record s { files = hs }) put_in))
 
 pub returns-in-Same : goal.returns-in-Same
 returns-in-Same c = λ known h.

@@ -12,8 +12,8 @@ use Rattle.node_parts.specs.Seen.{seen}
 use Rattle.node_parts.specs.Plans.{Plans}
 use Rattle.node_core.proofs.files.replicas.stored.Goals as goal
 
-pub returns-in-Some : goal.returns-in-Some
-returns-in-Some c = λ known h.
+pub returns-in_ok-change-in-Some : goal.returns-in_ok-change-in-Some
+returns-in_ok-change-in-Some c = λ known h.
     let s : State = seen c.args.node.now known in
     let asks : List Pending = c.args.node.now.past.asks in
     let place : ℕ = c.args.place in
@@ -26,7 +26,7 @@ returns-in-Some c = λ known h.
     let t : State = record s { pending = taken_out asks place } in
     subst (λ (x : Option Pending). IfOk c.replied.result (λ p. Plans s p (stored_at s c.args.origin c.args.number place x))) (sym found)
     (subst (λ (hs : List ℕ). IfOk c.replied.result (λ p. Plans s p (replied t asked.Insert c.args.origin c.args.number (reply.Stored hs)))) all
-    (c.replied.ensures s t (c.files-change.ensures s)))
+    (c.replied.ensures s t (c.in_ok-change-in-Some.ensures s)))
 
 -- no insert of a state waits for so many
 pub returns-in-None : goal.returns-in-None

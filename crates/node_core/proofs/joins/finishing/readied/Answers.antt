@@ -20,4 +20,4 @@ returns c = λ known h.
     (c.in_ok-send_to_each.ensures
     ∙ ap (λ (ms : List Sent). ms ++ to_each c.as_slice.result.now Announce) c.in_ok-messages.ensures
     ∙ ap (λ (ys : List ℕ). to_both c.args.left c.args.right (Confirm a) ++ to_each ys Announce) (c.as_slice.ensures.value ∙ c.in_ok-leaves.ensures known h))
-    (c.closing.ensures s t (c.seats_and_files.ensures s))
+    (c.closing.ensures s t (c.in_ok-change.ensures s))

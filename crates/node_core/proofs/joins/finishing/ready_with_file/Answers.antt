@@ -1,6 +1,6 @@
 use Rattle.std.proofs.Common.{◌≡◌, ℕ, List, Some, IfOk, sym, ap, ◌∙◌, subst}
 use Rattle.overlay_rules.specs.State.{State}
-use Rattle.overlay_rules.specs.Outcome.{Outcome}
+use Rattle.overlay_rules.specs.Outcome.{Outcome, nothing}
 use Rattle.node_parts.specs.Seen.{seen}
 use Rattle.node_parts.specs.Plans.{Plans}
 use Rattle.ring_math.specs.declared.file.Held.{Held}
@@ -19,9 +19,9 @@ returns-then-not-is_complete_with c = λ known h.
     let files : set_in s.files c.args.file.now (Some c.in_ok-copy.field-0) ≡ t.files =
     set-room s.files c.args.file.now (Some c.in_ok-copy.field-0) c.requires ∙ ap (λ (b : List ℕ). with_slot s.files c.args.file.now (Some b)) c.in_ok-copy.ensures in
     let state : ◌≡◌ {A = State} (record s { files = set_in s.files c.args.file.now (Some c.in_ok-copy.field-0) }) t = ap (λ (fs : List Held). record s { files = fs }) files in
-    subst (λ (o : Outcome). Plans s c.quietly.result o)
-    (ready-incomplete t (sym (c.is_complete_with.ensures c.args.bytes.now) ∙ c.if-not-is_complete_with.true))
-    (c.quietly.ensures s t (c.seats_and_files.ensures s ∙ state))
+    subst (λ (o : Outcome). IfOk c.keeping_file.result (λ p. Plans s p o))
+    (ap (λ (u : State). nothing u) state ∙ ready-incomplete t (sym (c.is_complete_with.ensures c.args.bytes.now) ∙ c.if-not-is_complete_with.true))
+    (c.keeping_file.ensures s)
 
 pub returns-in-Leasing : goal.returns-in-Leasing
 returns-in-Leasing c = λ known h.
@@ -44,6 +44,6 @@ returns-in_default c = λ known h.
     let files : set_in s.files c.args.file.now (Some c.in_ok-copy.field-0) ≡ t.files =
     set-room s.files c.args.file.now (Some c.in_ok-copy.field-0) c.requires ∙ ap (λ (b : List ℕ). with_slot s.files c.args.file.now (Some b)) c.in_ok-copy.ensures in
     let state : ◌≡◌ {A = State} (record s { files = set_in s.files c.args.file.now (Some c.in_ok-copy.field-0) }) t = ap (λ (fs : List Held). record s { files = fs }) files in
-    subst (λ (o : Outcome). Plans s c.quietly-in_default.result o)
-    (ready-other t (λ a n l r x y e. c.in_default.not-Leasing a n l r x y (c.joiner.ensures ∙ e)))
-    (c.quietly-in_default.ensures s t (c.seats_and_files-in_default.ensures s ∙ state))
+    subst (λ (o : Outcome). IfOk c.keeping_file-in_default.result (λ p. Plans s p o))
+    (ap (λ (u : State). nothing u) state ∙ ready-other t (λ a n l r x y e. c.in_default.not-Leasing a n l r x y (c.joiner.ensures ∙ e)))
+    (c.keeping_file-in_default.ensures s)

@@ -43,4 +43,4 @@ returns c = λ known.
     subst (λ (o : Outcome). Plans s c.quietly-2.result o)
     (row s k from a b true _ c.requires.ready c.requires.links (sym c.if-not-confirm.false ∙ c.confirm.ensures.answer) refl)
     (c.quietly-2.ensures s (confirmed s from a b k.left k.right)
-    (by_parts s from c.attempt.result b c.after.inside.left left c.after.inside.right right _ _ _ _ attempt lefts rights c.without.ensures c.without-2.ensures))
+    (c.in_ok-change.ensures s ∙ by_parts s from c.attempt.result b c.after.inside.left left c.after.inside.right right _ _ _ _ attempt lefts rights c.without.ensures c.without-2.ensures))

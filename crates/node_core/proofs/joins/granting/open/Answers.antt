@@ -34,7 +34,8 @@ returns c = λ known.
     λ o e. ap (replied_asks after busy) e ∙ sym (replied-asks after busy asks) in
     record {
       state =
-          ap (λ (x : Reach). opened_state s (gate_after c.in_ok-left_gate.left_gate s.left_gate) (gate_after c.in_ok-right_gate.right_gate s.right_gate) x g.joiner) c.in_ok-gap.ensures.ok
+          c.in_ok-change.ensures s
+          ∙ ap (λ (x : Reach). opened_state s (gate_after c.in_ok-left_gate.left_gate s.left_gate) (gate_after c.in_ok-right_gate.right_gate s.right_gate) x g.joiner) c.in_ok-gap.ensures.ok
           ∙ ap (λ (x : Option Lease). opened_state s x (gate_after c.in_ok-right_gate.right_gate s.right_gate) r g.joiner)
           (c.in_ok-left_gate.ensures ∙ ap (λ (b : Bool). gate_on b (record { gate = g; lists = c.in_ok-lists.lists }) (unless_lease (is_older g.joiner g.attempt) s.left_gate)) c.eq-on_left.ensures ∙ ap (λ (l : Lists). gate_on (s.me == g.right) (record { gate = g; lists = l }) (unless_lease (is_older g.joiner g.attempt) s.left_gate)) c.in_ok-lists.ensures)
           ∙ ap (λ (x : Option Lease). opened_state s (gate_on (s.me == g.right) (record { gate = g; lists = lists }) (unless_lease (is_older g.joiner g.attempt) s.left_gate)) x r g.joiner)
