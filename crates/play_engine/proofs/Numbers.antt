@@ -1,13 +1,10 @@
 -- A command's number is one more than the commands before it.
 use Rattle.std.proofs.Common.{◌≡◌, ◌<◌, ◌≤◌, ℕ, zero, suc, ◌+◌, Option, Some, None, List, [], ◌∷◌, length, take, slice_index_or, option_map, Contains, refl, sym, subst, ap, ◌∙◌, arith}
-use Rattle.std.proofs.lemmas.List.Elements.{All-push, All-weaker}
 use Rattle.wire_msg.specs.declared.command.Command.{Command as NodeCommand}
 use Rattle.wire_msg.specs.declared.command.Command.TheVariants as command
-use Rattle.overlay_rules.specs.declared.entry.Entry.{Entry}
 use Rattle.overlay_rules.specs.declared.entry.Event.{Event}
 use Rattle.overlay_rules.specs.declared.entry.Event.TheVariants as event
-use Rattle.overlay_rules.specs.Record.{Setting, World, Visit, visit, sent_in}
-use Rattle.overlay_rules.specs.Played.{entry_at, entry_of}
+use Rattle.overlay_rules.specs.Record.{Setting}
 use Rattle.ring_laws.specs.Receivers.{ViaIs}
 use Rattle.scenario_reader.specs.declared.action.Action.{Action}
 use Rattle.scenario_reader.specs.declared.action.What.{What}
@@ -23,7 +20,8 @@ use Rattle.schedule.specs.declared.turn.Turn.TheVariants as turn
 use Rattle.schedule.specs.Cursors.{Spot, IsAtPlace, event_of, step_of}
 use Rattle.schedule.specs.Turns.{Step, Happens, Skips, Ends}
 use Rattle.world_model.specs.Numbers.{IsNumberedBelow, IsNewest}
-use Rattle.world_model.specs.Recorded.{Recorded, setting_of, world_of, with_event}
+use Rattle.world_model.specs.Recorded.{Recorded, setting_of}
+use Rattle.world_model.proofs.Newest.{newest_more, newest_push}
 use Rattle.play_engine.specs.Advance.{recorded_after}
 use Rattle.play_engine.specs.Coming.{CanAct}
 use Rattle.play_engine.specs.Progress.{Progress, Plays, commands_before}
@@ -96,24 +94,6 @@ commands_rise tally (action ∷ actions) (suc place) (suc later) le =
     commands_rise (tallied tally action.what) actions place later (omega arith)
 
 -- ---- numbers in a record
-
-below_more : (n m : ℕ) (v : Event) → n ≤ m → IsNumberedBelow n v → IsNumberedBelow m v
-below_more n m (event.Command x k c) le h = omega arith
-below_more n m (event.Deliver k) le h = tt
-below_more n m (event.Noise x) le h = tt
-
-newest_more : (n m : ℕ) (es : List Entry) → n ≤ m → IsNewest n es → IsNewest m es
-newest_more n m es le h =
-    All-weaker (λ (e : Entry). IsNumberedBelow n e.event) (λ (e : Entry). IsNumberedBelow m e.event) (λ e. below_more n m e.event le) es h
-
-entry_event : (w : World) (v : Event) (o : Option Visit) → (entry_at w v o).event ≡ v
-entry_event w v None = refl
-entry_event w v (Some at) = refl
-
-newest_push : (n : ℕ) (r : Recorded) (v : Event) → IsNewest n r.entries → IsNumberedBelow n v → IsNewest n (with_event r v).entries
-newest_push n r v h below =
-    All-push (λ (e : Entry). IsNumberedBelow n e.event) r.entries (entry_of (world_of r) v) h
-    (subst (IsNumberedBelow n) (sym (entry_event (world_of r) v (visit (sent_in (world_of r).past) v))) below)
 
 numbered_next : (nodes : List NodeLine) (files : List FileLine) (tally : Tally) (w : What) (v : Event) → IsWhat nodes files tally w →
     event_of w ≡ Some v → IsNumberedBelow ((tallied tally w).commands + 1) v

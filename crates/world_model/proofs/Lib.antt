@@ -2,3 +2,4 @@ pub mod OneNode
 pub mod Finding
 pub mod Listing
 pub mod MoreEvents
+pub mod Newest
