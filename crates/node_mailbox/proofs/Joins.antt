@@ -1,5 +1,5 @@
 -- A join of many passes, from the last to the first.
-use Rattle.std.proofs.Common.{◌≡◌, ◌<◌, ◌≤◌, ◌+◌, ℕ, List, [], ◌∷◌, ◌++◌, length, set, get_or, sym, refl, ap, ◌∙◌, subst, inl, inr, arith}
+use Rattle.std.proofs.Common.{◌≡◌, ◌<◌, ◌≤◌, ◌+◌, ℕ, List, [], ◌∷◌, ◌++◌, length, set, sym, refl, ap, ◌∙◌, subst, inl, inr, arith}
 use Rattle.std.proofs.lemmas.Bool.{cases_lt}
 use Rattle.std.proofs.lemmas.List.{get_or_append_left, get_or-set_other, length-append}
 use Rattle.node_mailbox.specs.Pass.{PassView, TookOnlyPut, after_join, fresh_pass}
@@ -31,9 +31,11 @@ are_of_first-pop others other post of = record {
 }
 
 -- what the passes behind it knew they know still
-pub took_only_put-more : (passes : List PassView) (place count : ℕ) (new : PassView) → TookOnlyPut (pass_at (set passes place new) place)
-    → ((k : ℕ) → place + 1 ≤ k → k < count → TookOnlyPut (pass_at passes k)) → (k : ℕ) → place ≤ k → k < count → TookOnlyPut (pass_at (set passes place new) k)
-took_only_put-more passes place count new here behind k from below = elim (cases_lt place k) [
-  | inl past ↦ subst TookOnlyPut (sym (get_or-set_other passes place k new (fresh_pass (0, 0) 0) (omega arith))) (behind k (omega arith) below)
-  | inr first ↦ let at : place ≡ k = omega arith in subst (λ n. TookOnlyPut (pass_at (set passes place new) n)) at here
+pub took_only_put-more : (passes : List PassView) (place count : ℕ) (next : List PassView) (new : PassView) → next ≡ set passes place new → TookOnlyPut (pass_at next place)
+    → ((k : ℕ) → place + 1 ≤ k → k < count → TookOnlyPut (pass_at passes k)) → (k : ℕ) → place ≤ k → k < count → TookOnlyPut (pass_at next k)
+took_only_put-more passes place count next new made here behind k from below = elim (cases_lt place k) [
+  | inl past ↦
+      let same : pass_at next k ≡ pass_at passes k = ap (λ l. pass_at l k) made ∙ get_or-set_other passes place k new (fresh_pass (0, 0) 0) (omega arith) in
+      subst TookOnlyPut (sym same) (behind k (omega arith) below)
+  | inr first ↦ let at : place ≡ k = omega arith in subst (λ n. TookOnlyPut (pass_at next n)) at here
 ]

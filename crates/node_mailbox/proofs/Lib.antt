@@ -3,3 +3,4 @@ pub mod Steps
 pub mod Posts
 pub mod Joins
 pub mod Splits
+pub mod Counting

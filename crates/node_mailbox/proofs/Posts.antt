@@ -1,9 +1,9 @@
 -- Passes of a post, one to each mailbox.
-use Rattle.std.proofs.Common.{◌≡◌, ◌<◌, ◌≤◌, ℕ, List, [], ◌∷◌, length, map, set, get_or, sym, refl, ap, ◌∙◌, arith}
+use Rattle.std.proofs.Common.{◌≡◌, ℕ, List, [], ◌∷◌, map, set, get_or, refl, ap, ◌∙◌}
 use Rattle.std.proofs.lemmas.List.{length-set}
 use Rattle.std.proofs.Math.Seq.{map-set_same}
 use Rattle.node_mailbox.specs.Pass.{PassView, fresh_pass}
-use Rattle.node_mailbox.specs.Post.{PostView, AreOf, AreOfFirst, mailbox_at, pass_at}
+use Rattle.node_mailbox.specs.Post.{PostView, AreOf}
 
 abbrev mailbox_of : PassView → ℕ × ℕ
 mailbox_of p = p.mailbox

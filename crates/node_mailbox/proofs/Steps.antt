@@ -1,8 +1,7 @@
 -- Each step keeps the rule of one mailbox, and what a pass with all the parts learns from the rule. The queue's calls ask for
 -- these facts of whatever the queue holds and the other passes did.
 use Rattle.std.proofs.Common.{◌≡◌, ◌≤◌, ◌<◌, ℕ, ◌+◌, List, [], ◌∷◌, ◌++◌, set, sym, refl, ap, ◌∙◌, subst, Some, None, arith}
-use Rattle.std.specs.Prelude.{All, IfNone, MatchOption, Option}
-use Rattle.std.specs.List.{sum_by}
+use Rattle.std.specs.Prelude.{IfNone, MatchOption, Option}
 use Rattle.std.specs.Str.{bytes_eq}
 use Rattle.std.proofs.lemmas.List.Elements.{All-set, All-push, All-weaker}
 use Rattle.std.proofs.lemmas.List.Sums.{sum_by-cons, sum_by-append, sum_by_push}
@@ -12,7 +11,7 @@ use lib.ListN.{get_elem?}
 use Rattle.crossbeam_queue.specs.Fifo.{Pushes, Pops, Forks, Merges, Learns, Held}
 use Rattle.node_mailbox.specs.declared.hand.Hand.{Hand}
 use Rattle.node_mailbox.specs.Times.{times}
-use Rattle.node_mailbox.specs.Rule.{KeepsRule, IsIdle, KnowsTaken, KnowsQueue, all_parts, times_put, times_taken, hand, pushed, popped, one_less, joined}
+use Rattle.node_mailbox.specs.Rule.{KeepsRule, IsIdle, KnowsTaken, KnowsQueue, hand, pushed, popped, one_less, joined}
 use Rattle.node_mailbox.specs.Pass.{TookAllPut, pass_view}
 use Rattle.node_mailbox.proofs.Totals.{at-set, total-set, total-alone}
 

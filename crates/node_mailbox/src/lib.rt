@@ -13,7 +13,6 @@ mod passes;
 mod post;
 mod rule;
 
-pub use hand::Hand;
 pub use mailbox::{MailPass, Mailbox};
 pub use passes::Passes;
 pub use post::Post;

@@ -1,4 +1,4 @@
-use Rattle.std.proofs.Common.{◌≡◌, ◌<◌, ◌≤◌, ◌+◌, ℕ, List, [], ◌∷◌, ◌++◌, length, set, sym, subst, ap, ◌∙◌, arith}
+use Rattle.std.proofs.Common.{◌≡◌, ◌<◌, ◌≤◌, ◌+◌, ℕ, List, [], ◌∷◌, ◌++◌, length, sym, subst, ap, ◌∙◌, arith}
 use Rattle.std.proofs.lemmas.List.{length-append, nil_from_length}
 use Rattle.node_mailbox.specs.Pass.{PassView, TookOnlyPut, after_join}
 use Rattle.node_mailbox.specs.Post.{AreOfFirst, pass_at, after_joins}
@@ -17,16 +17,14 @@ loop-pass-preserved g c =
     let joined : after_joins now (rest ++ last ∷ []) ≡ end = subst (λ l. after_joins now l ≡ end) popped inv.joined in
     let at : c.len.result ≡ length rest = omega arith in
     let place : ℕ = c.len.result in
-    let next : List PassView = set now place (after_join (pass_at now place) last) in
-    let here : TookOnlyPut (pass_at next place) = subst (λ l. TookOnlyPut (pass_at l place)) c.join_one.ensures.joined c.join_one.ensures.was_put in
     let behind : (k : ℕ) → place + 1 ≤ k → k < length c.args.passes.items → TookOnlyPut (pass_at now k) = λ k from below.
         inv.was_put k (omega (arith, ap length popped, length-append rest (last ∷ []))) below in
     record {
       of = c.join_one.ensures.of;
       passes = are_of_first-pop rest last c.args.post.now of_first;
       joined = joins-step now rest last place c.join_one.new.self end at (omega (arith, of_first.few, inv.of.count, length-append rest (last ∷ []))) c.join_one.ensures.joined joined;
-      was_put = λ k from below. subst (λ l. TookOnlyPut (pass_at l k)) (sym c.join_one.ensures.joined)
-          (took_only_put-more now place (length c.args.passes.items) (after_join (pass_at now place) last) here behind k (omega arith) below);
+      was_put = λ k from below. took_only_put-more now place (length c.args.passes.items) c.join_one.new.self (after_join (pass_at now place) last)
+          c.join_one.ensures.joined c.join_one.ensures.was_put behind k (omega arith) below;
     }
 
 pub returns-clause-joined : goal.returns-clause-joined

@@ -1,4 +1,4 @@
-use Rattle.std.proofs.Common.{◌≡◌, ◌+◌, length, sym, subst, ap, ◌∙◌, arith}
+use Rattle.std.proofs.Common.{◌≡◌, ◌+◌, ◌++◌, ◌∷◌, [], length, sym, subst, ap, ◌∙◌, arith}
 use Rattle.node_mailbox.specs.Post.{after_joins}
 use Rattle.node_mailbox.proofs.Splits.{Splitting, splitting-two, splitting-more, splitting-of, splitting-back, splitting-all, splitting-given, are_of-given}
 use Rattle.node_mailbox.proofs.passes.Passes.split.Goals as goal
@@ -20,9 +20,10 @@ pub loop-place-preserved : goal.loop-place-preserved
 loop-place-preserved g c =
     let halfway = splitting-more c.loop-place.place c.args.self.now c.loop-place.self c.loop-place.passes.items c.split_one.new.self c.in-Ok.pass c.loop-place.invariant.halfway
         (omega (arith, ap length c.self.view_is)) c.in-Ok.ensures.old c.in-Ok.ensures.new in
+    let added : c.push_reserved.new.self.items ≡ c.loop-place.passes.items ++ c.in-Ok.pass ∷ [] = c.push_reserved.ensures.items in
     record {
       of = c.split_one.ensures.of;
-      halfway = subst (λ l. Splitting (c.loop-place.place + 1) c.args.self.now c.split_one.new.self l) (sym c.push_reserved.ensures.items) halfway;
+      halfway = subst (λ l. Splitting (c.loop-place.place + 1) c.args.self.now c.split_one.new.self l) (sym added) halfway;
       count = omega (arith, c.push_reserved.ensures.len, c.loop-place.invariant.count);
       room = omega (arith, c.push_reserved.ensures.capacity, c.loop-place.invariant.room);
     }

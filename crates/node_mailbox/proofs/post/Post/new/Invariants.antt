@@ -1,4 +1,4 @@
-use Rattle.std.proofs.Common.{◌≡◌, ◌≤◌, length, map}
+use Rattle.std.proofs.Common.{◌≡◌, length, map}
 use Rattle.node_mailbox.specs.Pass.{fresh_pass}
 use Rattle.node_mailbox.proofs.post.Post.new.Given as goal
 
