@@ -213,8 +213,8 @@ impl<T> Drop for SegQueue<T> {
 type Frame = Box<[u8]>;
 
 const SIZE: usize = 80;
-const ROUNDS: u64 = 200_000;
-const RUNS: usize = 40;
+const ROUNDS: u64 = 20_000;
+const RUNS: usize = 400;
 
 fn frame(number: u64) -> Frame {
     let mut bytes = [7; SIZE];

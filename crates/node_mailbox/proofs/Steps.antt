@@ -33,13 +33,15 @@ times-append frame xs ys = sum_by-append (hit frame) xs ys
 
 -- a pass with all the parts put what all put, and took what all took
 knows : (queue : List (List ℕ)) (passes : List Hand) (port : ℕ) (v : Hand) → KeepsRule queue passes → get_elem? passes port ≡ some v → KnowsQueue v queue
-knows queue passes port v rule at = record { whole = λ all frame.
-    let put = total-alone (λ (p : Hand). times frame p.put) passes port v (All-weaker IsIdle (λ (p : Hand). p.parts ≡ 0 → times frame p.put ≡ 0) (λ p idle none. ap (times frame) (idle none).0) passes rule.idle)
-        refl at (rule.parts ∙ sym all) in
-    let taken = total-alone (λ (p : Hand). times frame p.taken) passes port v (All-weaker IsIdle (λ (p : Hand). p.parts ≡ 0 → times frame p.taken ≡ 0) (λ p idle none. ap (times frame) (idle none).1) passes rule.idle)
-        refl at (rule.parts ∙ sym all) in
-    let frames = rule.frames frame in
-    omega arith }
+knows queue passes port v rule at = record {
+  whole = λ all frame.
+      let put = total-alone (λ (p : Hand). times frame p.put) passes port v (All-weaker IsIdle (λ (p : Hand). p.parts ≡ 0 → times frame p.put ≡ 0) (λ p idle none. ap (times frame) (idle none).0) passes rule.idle)
+      refl at (rule.parts ∙ sym all) in
+      let taken = total-alone (λ (p : Hand). times frame p.taken) passes port v (All-weaker IsIdle (λ (p : Hand). p.parts ≡ 0 → times frame p.taken ≡ 0) (λ p idle none. ap (times frame) (idle none).1) passes rule.idle)
+      refl at (rule.parts ∙ sym all) in
+      let frames = rule.frames frame in
+      omega arith;
+}
 
 took_only_put : (queue : List (List ℕ)) (v : Hand) → KnowsQueue v queue → KnowsTaken v
 took_only_put queue v known = record { whole = λ all frame. let e = known.whole all frame in omega arith }

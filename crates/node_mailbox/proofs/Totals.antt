@@ -29,7 +29,7 @@ total-set f (p ∷ ps) (suc port) old new at =
 total-none : (f : Hand → ℕ) (passes : List Hand) → All (λ (p : Hand). p.parts ≡ 0 → f p ≡ 0) passes → all_parts passes ≡ 0 → sum_by f passes ≡ 0
 total-none f passes idle none =
     let each : All (λ (p : Hand). f p ≤ 0) passes = λ k d lt.
-        let part = get_or-le-sum_by (λ (p : Hand). p.parts) passes k d lt in let e = idle k d lt (omega arith) in omega arith in
+    let part = get_or-le-sum_by (λ (p : Hand). p.parts) passes k d lt in let e = idle k d lt (omega arith) in omega arith in
     let bound = sum_by-le f 0 passes each in omega arith
 
 -- where one pass has all the parts, the total is its own

@@ -127,12 +127,7 @@ fn exchange<R: Wait>(
 }
 
 /// All that is left.
-fn drain<R: Wait>(
-    rt: &R,
-    alloc: Global,
-    mailbox: &Mailbox,
-    pass: &mut MailPass,
-) -> Option<Vec<u64>>
+fn drain<R: Wait>(rt: &R, alloc: Global, mailbox: &Mailbox, pass: &mut MailPass) -> Option<Vec<u64>>
     requires { pass.old.mailbox ≡ mailbox.now }
     ensures { pass.new.mailbox ≡ mailbox.now }
 {
@@ -241,14 +236,22 @@ fn a_post_of_64_nodes_finds_each_place(rt: HostRuntime) -> Result<(), Fail> {
     let ids = falling_ids(rt.alloc())?;
     let (post, mut passes) = Post::new(rt.alloc(), &ids)?;
     let mut others = passes.split(&rt, rt.alloc(), &post)?;
-    assert_eq!(rt; first_that_fails(&rt, rt.alloc(), &post, &mut passes, &ids), None);
-    assert_eq!(rt; first_that_fails(&rt, rt.alloc(), &post, &mut others, &ids), None);
+    assert_eq!(rt;
+        first_that_fails(&rt, rt.alloc(), &post, &mut passes, &ids),
+        None
+    );
+    assert_eq!(rt;
+        first_that_fails(&rt, rt.alloc(), &post, &mut others, &ids),
+        None
+    );
     assert_eq!(rt; post.place(Id(7)), None);
     let frame = frame_of(rt.alloc(), 5)?;
     assert!(rt; others.put(&rt, &post, 63, frame).is_ok());
     passes.join(&rt, &post, others);
     assert!(rt; passes.take(&rt, &post, 62).is_none());
-    let frame = passes.take(&rt, &post, 63).ok_or("nothing at the last place")?;
+    let frame = passes
+        .take(&rt, &post, 63)
+        .ok_or("nothing at the last place")?;
     assert_eq!(rt; number_in(&frame), Some(5));
     Ok(())
 }

@@ -18,7 +18,7 @@ loop-pass-preserved g c =
     let at : c.len.result ≡ length rest = omega arith in
     let place : ℕ = c.len.result in
     let behind : (k : ℕ) → place + 1 ≤ k → k < length c.args.passes.items → TookOnlyPut (pass_at now k) = λ k from below.
-        inv.was_put k (omega (arith, ap length popped, length-append rest (last ∷ []))) below in
+    inv.was_put k (omega (arith, ap length popped, length-append rest (last ∷ []))) below in
     record {
       of = c.join_one.ensures.of;
       passes = are_of_first-pop rest last c.args.post.now of_first;

@@ -19,7 +19,7 @@ returns-in-Err-clause-err g c =
 pub loop-place-preserved : goal.loop-place-preserved
 loop-place-preserved g c =
     let halfway = splitting-more c.loop-place.place c.args.self.now c.loop-place.self c.loop-place.passes.items c.split_one.new.self c.in-Ok.pass c.loop-place.invariant.halfway
-        (omega (arith, ap length c.self.view_is)) c.in-Ok.ensures.old c.in-Ok.ensures.new in
+    (omega (arith, ap length c.self.view_is)) c.in-Ok.ensures.old c.in-Ok.ensures.new in
     let added : c.push_reserved.new.self.items ≡ c.loop-place.passes.items ++ c.in-Ok.pass ∷ [] = c.push_reserved.ensures.items in
     record {
       of = c.split_one.ensures.of;
