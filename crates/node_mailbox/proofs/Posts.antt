@@ -14,8 +14,8 @@ mailboxes-fresh parts [] = refl
 mailboxes-fresh parts (m ∷ ms) = ap (λ rest. m ∷ rest) (mailboxes-fresh parts ms)
 
 -- a pass of the same mailbox may take the place of one
-pub are_of-set : (passes : List PassView) (post : PostView) (place : ℕ) (old new : PassView) → AreOf passes post → new.mailbox ≡ old.mailbox → old ≡ get_or passes place old
-    → AreOf (set passes place new) post
+pub are_of-set : (passes : List PassView) (post : PostView) (place : ℕ) (old new : PassView) → AreOf passes post → new.mailbox ≡ old.mailbox
+    → old ≡ get_or passes place old → AreOf (set passes place new) post
 are_of-set passes post place old new of same is = record {
   mailboxes = map-set_same mailbox_of passes place new old (same ∙ ap mailbox_of is) ∙ of.mailboxes;
   count = length-set passes place new ∙ of.count;

@@ -1,9 +1,9 @@
 -- Each step keeps the rule of one mailbox, and what a pass with all the parts learns from the rule. The queue's calls ask for
 -- these facts of whatever the queue holds and the other passes did.
 use Rattle.std.proofs.Common.{◌≡◌, ◌≤◌, ◌<◌, ℕ, ◌+◌, List, [], ◌∷◌, ◌++◌, set, sym, refl, ap, ◌∙◌, subst, Some, None, arith}
-use Rattle.std.specs.Prelude.{IfNone, MatchOption, Option}
+use Rattle.std.specs.Prelude.{All, IfNone, MatchOption, Option}
 use Rattle.std.specs.Str.{bytes_eq}
-use Rattle.std.proofs.lemmas.List.Elements.{All-set, All-push, All-weaker}
+use Rattle.std.proofs.lemmas.List.Elements.{All-set, All-push}
 use Rattle.std.proofs.lemmas.List.Sums.{sum_by-cons, sum_by-append, sum_by_push}
 use mathlib.Core.Bool.{cond}
 use mathlib.Core.Option.{some}
@@ -11,7 +11,7 @@ use lib.ListN.{get_elem?}
 use Rattle.crossbeam_queue.specs.Fifo.{Pushes, Pops, Forks, Merges, Learns, Held}
 use Rattle.node_mailbox.specs.declared.hand.Hand.{Hand}
 use Rattle.node_mailbox.specs.Times.{times}
-use Rattle.node_mailbox.specs.Rule.{KeepsRule, IsIdle, KnowsTaken, KnowsQueue, hand, pushed, popped, one_less, joined}
+use Rattle.node_mailbox.specs.Rule.{all_parts, KeepsRule, IsIdle, KnowsTaken, KnowsQueue, hand, pushed, popped, one_less, joined}
 use Rattle.node_mailbox.specs.Pass.{TookAllPut, pass_view}
 use Rattle.node_mailbox.proofs.Totals.{at-set, total-set, total-alone}
 
@@ -31,14 +31,19 @@ times-cons frame x xs = sum_by-cons (hit frame) x xs
 times-append : (frame : List ℕ) (xs ys : List (List ℕ)) → times frame (xs ++ ys) ≡ times frame xs + times frame ys
 times-append frame xs ys = sum_by-append (hit frame) xs ys
 
+idle_put : (frame : List ℕ) (passes : List Hand) → All IsIdle passes → All (λ (p : Hand). p.parts ≡ 0 → times frame p.put ≡ 0) passes
+idle_put frame passes idle = λ k d lt none. ap (times frame) (idle k d lt none).0
+
+idle_taken : (frame : List ℕ) (passes : List Hand) → All IsIdle passes → All (λ (p : Hand). p.parts ≡ 0 → times frame p.taken ≡ 0) passes
+idle_taken frame passes idle = λ k d lt none. ap (times frame) (idle k d lt none).1
+
 -- a pass with all the parts put what all put, and took what all took
 knows : (queue : List (List ℕ)) (passes : List Hand) (port : ℕ) (v : Hand) → KeepsRule queue passes → get_elem? passes port ≡ some v → KnowsQueue v queue
 knows queue passes port v rule at = record {
   whole = λ all frame.
-      let put = total-alone (λ (p : Hand). times frame p.put) passes port v (All-weaker IsIdle (λ (p : Hand). p.parts ≡ 0 → times frame p.put ≡ 0) (λ p idle none. ap (times frame) (idle none).0) passes rule.idle)
-      refl at (rule.parts ∙ sym all) in
-      let taken = total-alone (λ (p : Hand). times frame p.taken) passes port v (All-weaker IsIdle (λ (p : Hand). p.parts ≡ 0 → times frame p.taken ≡ 0) (λ p idle none. ap (times frame) (idle none).1) passes rule.idle)
-      refl at (rule.parts ∙ sym all) in
+      let parts : all_parts passes ≡ v.parts = rule.parts ∙ sym all in
+      let put = total-alone (λ (p : Hand). times frame p.put) passes port v (idle_put frame passes rule.idle) refl at parts in
+      let taken = total-alone (λ (p : Hand). times frame p.taken) passes port v (idle_taken frame passes rule.idle) refl at parts in
       let frames = rule.frames frame in
       omega arith;
 }
@@ -77,31 +82,34 @@ pops port v some_part x queue passes rule at =
     (w, kept, (refl, took_only_put queue w (knows queue (set passes port w) port w kept here)))
 
 pub forks : (port : ℕ) (v : Hand) → 2 ≤ v.parts → Forks Holds port v (one_less v) (hand 1 [] [])
-forks port v two queue passes rule at = let old = one_less v in let new = hand 1 [] [] in record {
+forks port v two queue passes rule at = let old = one_less v in let new = hand 1 [] [] in let rest = set passes port old in record {
   frames = λ frame.
       let put = total-set (λ (p : Hand). times frame p.put) passes port v old at in
       let taken = total-set (λ (p : Hand). times frame p.taken) passes port v old at in
       let frames = rule.frames frame in
-      omega (arith, sum_by_push (λ (p : Hand). times frame p.put) (set passes port old) new, sum_by_push (λ (p : Hand). times frame p.taken) (set passes port old) new);
-  parts = let parts = total-set (λ (p : Hand). p.parts) passes port v old at in omega (arith, rule.parts, sum_by_push (λ (p : Hand). p.parts) (set passes port old) new);
-  idle = All-push IsIdle (set passes port old) new (All-set IsIdle passes port old (λ none. absurd (omega arith)) rule.idle) (λ none. absurd (omega arith));
+      omega (arith, sum_by_push (λ (p : Hand). times frame p.put) rest new, sum_by_push (λ (p : Hand). times frame p.taken) rest new);
+  parts =
+      let parts = total-set (λ (p : Hand). p.parts) passes port v old at in
+      omega (arith, rule.parts, sum_by_push (λ (p : Hand). p.parts) rest new);
+  idle = All-push IsIdle rest new (All-set IsIdle passes port old (λ none. absurd (omega arith)) rule.idle) (λ none. absurd (omega arith));
 }
 
 pub merges : (port : ℕ) (v : Hand) (other : ℕ) (w : Hand) → 0 < v.parts → Merges Holds port v other w (joined v w) (hand 0 [] [])
-merges port v other w some_part queue passes rule at apart at_other = let both = joined v w in let spent = hand 0 [] [] in let next = set passes port both in record {
-  frames = λ frame.
-      let put = total-set (λ (p : Hand). times frame p.put) passes port v both at in
-      let put_other = total-set (λ (p : Hand). times frame p.put) next other w spent at_other in
-      let taken = total-set (λ (p : Hand). times frame p.taken) passes port v both at in
-      let taken_other = total-set (λ (p : Hand). times frame p.taken) next other w spent at_other in
-      let frames = rule.frames frame in
-      omega (arith, times-append frame v.put w.put, times-append frame v.taken w.taken);
-  parts =
-      let parts = total-set (λ (p : Hand). p.parts) passes port v both at in
-      let parts_other = total-set (λ (p : Hand). p.parts) next other w spent at_other in
-      omega (arith, rule.parts);
-  idle = All-set IsIdle next other spent (λ none. (refl, refl)) (All-set IsIdle passes port both (λ none. absurd (omega arith)) rule.idle);
-}
+merges port v other w some_part queue passes rule at apart at_other = let both = joined v w in let spent = hand 0 [] [] in
+    let next = set passes port both in record {
+      frames = λ frame.
+          let put = total-set (λ (p : Hand). times frame p.put) passes port v both at in
+          let put_other = total-set (λ (p : Hand). times frame p.put) next other w spent at_other in
+          let taken = total-set (λ (p : Hand). times frame p.taken) passes port v both at in
+          let taken_other = total-set (λ (p : Hand). times frame p.taken) next other w spent at_other in
+          let frames = rule.frames frame in
+          omega (arith, times-append frame v.put w.put, times-append frame v.taken w.taken);
+      parts =
+          let parts = total-set (λ (p : Hand). p.parts) passes port v both at in
+          let parts_other = total-set (λ (p : Hand). p.parts) next other w spent at_other in
+          omega (arith, rule.parts);
+      idle = All-set IsIdle next other spent (λ none. (refl, refl)) (All-set IsIdle passes port both (λ none. absurd (omega arith)) rule.idle);
+    }
 
 pub learns : (port : ℕ) (v : Hand) → Learns Holds port v (λ queue. KnowsQueue v queue)
 learns port v queue passes rule at = knows queue passes port v rule at

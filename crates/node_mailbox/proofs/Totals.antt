@@ -38,5 +38,6 @@ pub total-alone : (f : Hand → ℕ) (passes : List Hand) (port : ℕ) (v : Hand
 total-alone f passes port v idle spent at all =
     let z : Hand = hand 0 [] [] in
     let parts = total-set (λ (p : Hand). p.parts) passes port v z at in
-    let rest : sum_by f (set passes port z) ≡ 0 = total-none f (set passes port z) (All-set (λ (p : Hand). p.parts ≡ 0 → f p ≡ 0) passes port z (λ _. spent) idle) (omega arith) in
+    let others = All-set (λ (p : Hand). p.parts ≡ 0 → f p ≡ 0) passes port z (λ _. spent) idle in
+    let rest : sum_by f (set passes port z) ≡ 0 = total-none f (set passes port z) others (omega arith) in
     let total = total-set f passes port v z at in omega arith

@@ -26,6 +26,10 @@ after_take p frame = pass_view p.mailbox p.parts p.put (p.taken ++ frame ∷ [])
 abbrev pub after_split : PassView → PassView
 after_split p = pass_view p.mailbox (p.parts - 1) p.put p.taken
 
+-- and this is the new pass
+abbrev pub split_off : PassView → PassView
+split_off p = fresh_pass p.mailbox 1
+
 -- the other pass was joined into it
 abbrev pub after_join : PassView → PassView → PassView
 after_join p other = pass_view p.mailbox (p.parts + other.parts) (p.put ++ other.put) (p.taken ++ other.taken)

@@ -1,7 +1,7 @@
 //! A mailbox, and a pass to it.
 
 ghost use Rattle.std.specs.Prelude.{◌≡◌, ◌≤◌, IfOk, IfErr, IfSome, IfNone, OnOk, OnErr};
-ghost use Rattle.node_mailbox.specs.Pass.{fresh_pass, after_put, after_take, after_split, after_join, TookOnlyPut, TookAllPut};
+ghost use Rattle.node_mailbox.specs.Pass.{fresh_pass, after_put, after_take, after_split, split_off, after_join, TookOnlyPut, TookAllPut};
 
 use crate::hand::Hand;
 use crate::rule::{Parts, Pop, Push, Queue};
@@ -81,7 +81,7 @@ impl Mailbox {
         requires two { 2 ≤ pass.old.parts }
         ensures mailbox { pass.new.mailbox ≡ pass.old.mailbox }
         ensures old { OnOk result (pass.new ≡ after_split pass.old) }
-        ensures new { IfOk result (λ new. new ≡ fresh_pass self.now 1) }
+        ensures new { IfOk result (λ new. new ≡ split_off pass.old) }
         ensures err { OnErr result (pass.new ≡ pass.old) }
     {
         let pass = self.queue.another::<Parts>(&mut pass.pass);

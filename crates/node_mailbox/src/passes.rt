@@ -1,7 +1,7 @@
 //! A pass to each mailbox of a post.
 
 ghost use Rattle.std.specs.Prelude.{◌≡◌, ◌≤◌, ◌<◌, ℕ, length, map, slice_set, vec_len, All, IfOk, IfErr, IfSome, IfNone, OnOk, OnErr};
-ghost use Rattle.node_mailbox.specs.Pass.{fresh_pass, after_put, after_take, after_split, after_join, TookOnlyPut, TookAllPut};
+ghost use Rattle.node_mailbox.specs.Pass.{after_put, after_take, after_split, split_off, after_join, TookOnlyPut, TookAllPut};
 ghost use Rattle.node_mailbox.specs.Post.{AreOf, AreOfFirst, mailbox_at, pass_at, after_joins};
 
 use crate::mailbox::MailPass;
@@ -74,7 +74,7 @@ impl Passes {
         ensures of { AreOf self.new post.now }
         ensures new_of { IfOk result (λ new. AreOf new post.now) }
         ensures old { OnOk result (self.new ≡ map after_split self.old) }
-        ensures new { IfOk result (λ new. new ≡ map (λ pass. fresh_pass pass.mailbox 1) self.old) }
+        ensures new { IfOk result (λ new. new ≡ map split_off self.old) }
         ensures err { OnErr result (self.new ≡ self.old) }
     {
         let mut passes = Vec::with_capacity(alloc, self.passes.len())?;
@@ -101,7 +101,7 @@ impl Passes {
         requires two { 2 ≤ (pass_at self.old place).parts }
         ensures of { AreOf self.new post.now }
         ensures old { OnOk result (self.new ≡ slice_set self.old place (after_split (pass_at self.old place))) }
-        ensures new { IfOk result (λ new. new ≡ fresh_pass (pass_at self.old place).mailbox 1) }
+        ensures new { IfOk result (λ new. new ≡ split_off (pass_at self.old place)) }
         ensures err { OnErr result (self.new ≡ self.old) }
     {
         let pass = &mut self.passes[place];

@@ -4,4 +4,7 @@ use Rattle.node_mailbox.specs.Pass.{TookOnlyPut, fresh_pass}
 use Rattle.node_mailbox.proofs.passes.Passes.join.Goals as goal
 
 pub returns-clause-was_put : goal.returns-clause-was_put
-returns-clause-was_put g c = All-from_get_or TookOnlyPut c.join_first.new.self (fresh_pass (0, 0) 0) (λ k lt. c.join_first.ensures.was_put k (omega (arith, c.join_first.ensures.of.count, c.requires.other.count, ap length c.other.view_is)))
+returns-clause-was_put g c =
+    let joined = c.join_first.ensures in
+    All-from_get_or TookOnlyPut c.join_first.new.self (fresh_pass (0, 0) 0)
+    (λ k lt. joined.was_put k (omega (arith, joined.of.count, c.requires.other.count, ap length c.other.view_is)))

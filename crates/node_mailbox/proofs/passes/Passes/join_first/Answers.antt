@@ -22,7 +22,9 @@ loop-pass-preserved g c =
     record {
       of = c.join_one.ensures.of;
       passes = are_of_first-pop rest last c.args.post.now of_first;
-      joined = joins-step now rest last place c.join_one.new.self end at (omega (arith, of_first.few, inv.of.count, length-append rest (last ∷ []))) c.join_one.ensures.joined joined;
+      joined =
+          let few : length rest < length now = omega (arith, of_first.few, inv.of.count, length-append rest (last ∷ [])) in
+          joins-step now rest last place c.join_one.new.self end at few c.join_one.ensures.joined joined;
       was_put = λ k from below. took_only_put-more now place (length c.args.passes.items) c.join_one.new.self (after_join (pass_at now place) last)
           c.join_one.ensures.joined c.join_one.ensures.was_put behind k (omega arith) below;
     }

@@ -9,5 +9,7 @@ returns-clause-of c =
     let inv = c.loop.invariant in
     record {
       mailboxes = ap (map (λ (p : PassView). p.mailbox)) inv.passes ∙ mailboxes-fresh 65 c.loop.mailboxes.items;
-      count = omega (arith, ap length inv.passes, length-map c.loop.mailboxes.items (λ mailbox. fresh_pass mailbox 65), inv.count, c.loop.auto.index-end, c.loop-test.false, c.in_ok-nodes.ensures.len);
+      count =
+          let same = ap length inv.passes in let long = length-map c.loop.mailboxes.items (λ mailbox. fresh_pass mailbox 65) in
+          omega (arith, inv.count, c.loop.auto.index-end, c.loop-test.false, c.in_ok-nodes.ensures.len);
     }
