@@ -26,7 +26,7 @@ pub record KeepsRule (queue : List (List ℕ)) (passes : List Hand) : Type 0 whe
   pub parts : all_parts passes ≡ 65
   pub idle : All IsIdle passes
 
--- what a pass with all the parts knows of what it took: each frame was put as often
+-- what a pass with all the parts knows of what it took: each frame was put at least as often
 pub record KnowsTaken (p : Hand) : Type 0 where
   pub whole : p.parts ≡ 65 → (frame : List ℕ) → times frame p.taken ≤ times frame p.put
 
