@@ -193,41 +193,24 @@ fn first_that_fails<R: Wait>(
     post: &Post,
     passes: &mut Passes,
     ids: &[Id],
-) -> Option<usize>
+) -> Result<Option<usize>, OutOfMemory>
     requires of { AreOf passes.old post.now }
     requires ids { length ids.now ≤ length post.now.nodes }
     ensures { AreOf passes.new post.now }
 {
     for place in 0..ids.len() {
-        let frame = frame_of(alloc, place as u64).ok();
-        if post.place(ids[place]) != Some(place) || !is_put(rt, post, passes, place, frame) {
-            return Some(place);
+        let frame = frame_of(alloc, place as u64)?;
+        if post.place(ids[place]) != Some(place) || passes.put(rt, post, place, frame).is_err() {
+            return Ok(Some(place));
         }
     }
     for place in 0..ids.len() {
         let taken = passes.take(rt, post, place);
         if taken.and_then(|frame| number_in(&frame)) != Some(place as u64) {
-            return Some(place);
+            return Ok(Some(place));
         }
     }
-    None
-}
-
-fn is_put<R: Wait>(
-    rt: &R,
-    post: &Post,
-    passes: &mut Passes,
-    place: usize,
-    frame: Option<Frame>,
-) -> bool
-    requires of { AreOf passes.old post.now }
-    requires place { place < length post.now.nodes }
-    ensures { AreOf passes.new post.now }
-{
-    match frame {
-        Some(frame) => passes.put(rt, post, place, frame).is_ok(),
-        None => false,
-    }
+    Ok(None)
 }
 
 // Both passes put and take at each place, and what the one put comes out by the other, at its place alone.
@@ -237,11 +220,11 @@ fn a_post_of_64_nodes_finds_each_place(rt: HostRuntime) -> Result<(), Fail> {
     let (post, mut passes) = Post::new(rt.alloc(), &ids)?;
     let mut others = passes.split(&rt, rt.alloc(), &post)?;
     assert_eq!(rt;
-        first_that_fails(&rt, rt.alloc(), &post, &mut passes, &ids),
+        first_that_fails(&rt, rt.alloc(), &post, &mut passes, &ids)?,
         None
     );
     assert_eq!(rt;
-        first_that_fails(&rt, rt.alloc(), &post, &mut others, &ids),
+        first_that_fails(&rt, rt.alloc(), &post, &mut others, &ids)?,
         None
     );
     assert_eq!(rt; post.place(Id(7)), None);
