@@ -1,0 +1,9 @@
+use Rattle.std.proofs.Common.{◌≡◌, length, map}
+use Rattle.node_mailbox.specs.Pass.{fresh_pass}
+use Rattle.node_mailbox.proofs.post.Post.new.Given as goal
+
+abbrev pub invariant-loop : goal.invariant-loop
+invariant-loop l = record {
+  count : length l.mailboxes.items ≡ l.index;
+  passes : l.passes.items ≡ map (λ mailbox. fresh_pass mailbox 65) l.mailboxes.items;
+}

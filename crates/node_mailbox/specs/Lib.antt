@@ -1,0 +1,4 @@
+pub mod Times
+pub mod Rule
+pub mod Pass
+pub mod Post
