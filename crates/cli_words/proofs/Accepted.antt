@@ -1,6 +1,7 @@
 -- Each value that a simple command finds for an argument, where it refuses nothing, passed the argument's parser: the walk over
 -- the words adds values only by uses, and a use of values that do not pass is refused.
-use Rattle.std.proofs.Common.{◌≡◌, ◌∙◌, ◌&&◌, ◌||◌, ℕ, Bool, cond, true, false, zero, suc, refl, sym, ap, ap₂, subst, arith, List, [], ◌∷◌, ◌++◌, Option, Some, None}
+use Rattle.std.proofs.Common.{◌≡◌, ◌∙◌, ◌&&◌, ◌||◌, ℕ, Bool, cond, true, false, zero, suc, refl, sym, ap, ap₂, subst, arith, List, [], ◌∷◌, ◌++◌, Option, Some}
+use Rattle.std.proofs.Common.{None}
 use Rattle.std.proofs.lemmas.Bool.{eqb-true}
 use Rattle.std.proofs.lemmas.Slice.Eq.{bytes_eq-Decides}
 use Rattle.std.specs.Prelude.{find, fold, slice_get, drop, length, encode_utf8, is_some}
@@ -12,8 +13,15 @@ use Rattle.clap.specs.Values.{reading_of}
 use Rattle.clap.specs.ValueTests.{accepts}
 use Rattle.clap.specs.Kinds.{Kinds, or_else, value_kinds, values_kinds}
 use Rattle.clap.specs.Simple.{Shape}
-use Rattle.clap.specs.Faults.{action_fault, use_fault, settle_fault, react_fault, option_fault, long_fault, short_fault, bundle_step_fault, flags_fault, bundle_fault, flag_word_fault, other_fault, word_fault, positional_fault, step_fault, turn_fault, walk_fault, default_fault, defaults_fault, given_default_fault, level_fault}
-use Rattle.clap.specs.Walk.{Held, Names, Outcome, Row, Rule, Step, Text, Waiting, Walk, idle, option, positional, done, waits, plain, refused, next, trailing, subcommand, value, action_of, after_flag, after_step, arg_by_id, arg_by_index, arg_by_long, arg_by_short, at_row, attached_value, bundle_met, bundle_step, default_rows, finished, flag_met, has_row, is_empty, is_pending, long_met, long_or_other, more_values, option_met, option_word, plain_word, reacted, reading_by, settled, settled_rows, short_met, short_or_plain, subcommand_met, subcommand_or_other, takes_several, takes_values, to_positional, used, used_as, used_by_id, values_or_missing, walk, walk_from, walked, walked_from, with_default, with_values, without, word_met}
+use Rattle.clap.specs.Faults.{action_fault, use_fault, settle_fault, react_fault, option_fault, long_fault, short_fault, bundle_step_fault, flags_fault}
+use Rattle.clap.specs.Faults.{bundle_fault, flag_word_fault, other_fault, word_fault, positional_fault, step_fault, turn_fault, walk_fault, default_fault}
+use Rattle.clap.specs.Faults.{defaults_fault, given_default_fault, level_fault}
+use Rattle.clap.specs.Walk.{Held, Names, Outcome, Row, Rule, Step, Text, Waiting, Walk, idle, option, positional, done, waits, plain, refused, next, trailing}
+use Rattle.clap.specs.Walk.{subcommand, value, action_of, after_flag, after_step, arg_by_id, arg_by_index, arg_by_long, arg_by_short, at_row, attached_value}
+use Rattle.clap.specs.Walk.{bundle_met, bundle_step, default_rows, finished, flag_met, has_row, is_empty, is_pending, long_met, long_or_other, more_values}
+use Rattle.clap.specs.Walk.{option_met, option_word, plain_word, reacted, reading_by, settled, settled_rows, short_met, short_or_plain, subcommand_met}
+use Rattle.clap.specs.Walk.{subcommand_or_other, takes_several, takes_values, to_positional, used, used_as, used_by_id, values_or_missing, walk, walk_from}
+use Rattle.clap.specs.Walk.{walked, walked_from, with_default, with_values, without, word_met}
 use Rattle.clap.specs.declared.builder.action.ArgAction.{ArgAction}
 use Rattle.clap.specs.declared.builder.action.ArgAction.TheVariants.{Set}
 use Rattle.clap.specs.declared.builder.value_parser.Reading.{Reading}
@@ -97,7 +105,8 @@ module _ (id : Text) (q : ValueParser) where
       (λ r same fit. (record { values = λ is. append_passing r.values vs (fit.values is) (passes (key_is r.id key same is)); reading = fit.reading }, tt))
       (record { values = passes; reading = reads }, tt) h
 
-  good_values : (a : Rule) → IsGood a → (vs : List Text) → values_kinds a.ignore_case (parser_of_value a.parser) vs ≡ [] → bytes_eq a.id id ≡ true → EachPasses vs
+  good_values : (a : Rule) → IsGood a → (vs : List Text) → values_kinds a.ignore_case (parser_of_value a.parser) vs ≡ [] → bytes_eq a.id id ≡ true →
+      EachPasses vs
   good_values a g vs e is =
       passing vs (sym (ap₂ (λ (b : Bool) (p : ValueParser). values_kinds b p vs) (g.case_counts is) (g.parser is)) ∙ e)
 
@@ -107,7 +116,8 @@ module _ (id : Text) (q : ValueParser) where
   used_as_fit : (again : Bool) (a : Rule) → IsGood a → (vs : List Text) (rows : List Row) → action_fault Set again a vs rows ≡ [] → AllFit rows →
       AllFit (used_as Set a.id (reading_by a) vs rows)
   used_as_fit again a g vs rows e h =
-      with_values_fit a.id (reading_by a) CommandLine vs (without a.id rows) (good_values a g vs (both_empty _ _ e).1) (good_reading a g) (without_fit a.id rows h)
+      with_values_fit a.id (reading_by a) CommandLine vs (without a.id rows) (good_values a g vs (both_empty _ _ e).1) (good_reading a g)
+      (without_fit a.id rows h)
 
   used_fit : (again : Bool) (a : Rule) → IsGood a → (vs : List Text) (rows : List Row) → use_fault again a vs rows ≡ [] → AllFit rows → AllFit (used a vs rows)
   used_fit again a g vs rows e h =
@@ -152,12 +162,14 @@ module _ (id : Text) (q : ValueParser) where
     option_fit a g (Some v) h e k = reacted_fit a g (v ∷ []) h e k
     option_fit a g None h e k = settled_fit h e k
 
-    flag_fit : (a : Rule) → IsGood a → (v : Option Text) (h : Held) (k : ErrorKind) → cond (is_some v) (k ∷ []) (react_fault c again a [] h) ≡ [] → AllFit h.rows →
+    flag_fit : (a : Rule) → IsGood a → (v : Option Text) (h : Held) (k : ErrorKind) → cond (is_some v) (k ∷ []) (react_fault c again a [] h) ≡ [] →
+        AllFit h.rows →
         AllFit (flag_met c a v h).0.rows
     flag_fit a g (Some v) h k e fit = fit
     flag_fit a g None h k e fit = reacted_fit a g [] h e fit
 
-    long_fit : (o : Option Rule) → GoodIfFound o → (v : Option Text) (h : Held) → long_fault c again o v h ≡ [] → AllFit h.rows → AllFit (long_met c o v h).0.rows
+    long_fit : (o : Option Rule) → GoodIfFound o → (v : Option Text) (h : Held) → long_fault c again o v h ≡ [] → AllFit h.rows →
+        AllFit (long_met c o v h).0.rows
     long_fit None g v h e k = k
     long_fit (Some a) g v h e k = go (takes_values a) e
       where
@@ -168,10 +180,12 @@ module _ (id : Text) (q : ValueParser) where
 
     -- what may follow in a bundle of flags keeps rows fit
     abbrev KeepsFit : (Text → ℕ → Held → Kinds) → (Text → ℕ → Outcome → Held → Held × Outcome) → Type 0
-    KeepsFit fault met = (flags : Text) (skip : ℕ) (so_far : Outcome) (h : Held) → fault flags skip h ≡ [] → AllFit h.rows → AllFit (met flags skip so_far h).0.rows
+    KeepsFit fault met = (flags : Text) (skip : ℕ) (so_far : Outcome) (h : Held) → fault flags skip h ≡ [] → AllFit h.rows →
+        AllFit (met flags skip so_far h).0.rows
 
     short_fit : (o : Option Rule) → GoodIfFound o → (rest : Text) (h : Held) (fault : Held → Kinds) (met : Held → Held × Outcome) →
-        ((h : Held) → fault h ≡ [] → AllFit h.rows → AllFit (met h).0.rows) → short_fault c again o rest h fault ≡ [] → AllFit h.rows → AllFit (short_met c o rest h met).0.rows
+        ((h : Held) → fault h ≡ [] → AllFit h.rows → AllFit (met h).0.rows) → short_fault c again o rest h fault ≡ [] → AllFit h.rows →
+        AllFit (short_met c o rest h met).0.rows
     short_fit None g rest h fault met keeps e k = k
     short_fit (Some a) g rest h fault met keeps e k = go (takes_values a) e
       where
@@ -212,7 +226,8 @@ module _ (id : Text) (q : ValueParser) where
     after_flag_fit waiting word h plain k = plain_word_fit waiting word h k
     after_flag_fit waiting word h refused k = plain_word_fit waiting word h k
 
-    short_word_fit : (waiting : Waiting) (word : Text) (o : Option Text) (h : Held) → option_map_or (λ flags. bundle_fault c again flags h) o [] ≡ [] → AllFit h.rows →
+    short_word_fit : (waiting : Waiting) (word : Text) (o : Option Text) (h : Held) → option_map_or (λ flags. bundle_fault c again flags h) o [] ≡ [] →
+        AllFit h.rows →
         AllFit (short_or_plain c waiting word o h).0.rows
     short_word_fit waiting word None h e k = plain_word_fit waiting word h k
     short_word_fit waiting word (Some flags) h e k =
@@ -236,12 +251,14 @@ module _ (id : Text) (q : ValueParser) where
         go true e = k
         go false e = flag_word_fit s.rules good s.args_override_self waiting word (long_of word) h e k
 
-    word_fit : (is_trailing : Bool) (waiting : Waiting) (position : ℕ) (word : Text) (h : Held) → word_fault s names is_trailing waiting word h ≡ [] → AllFit h.rows →
+    word_fit : (is_trailing : Bool) (waiting : Waiting) (position : ℕ) (word : Text) (h : Held) → word_fault s names is_trailing waiting word h ≡ [] →
+        AllFit h.rows →
         AllFit (word_met s.rules names is_trailing waiting position word h).0.rows
     word_fit true waiting position word h e k = k
     word_fit false waiting position word h e k = other_fit (subcommand_met names waiting word) waiting position word h e k
 
-    positional_fit : (o : Option Rule) (stray : Kinds) (word : Text) (w : Walk) (h : Held) → option_map_or (λ a. positional_fault s.rules s.args_override_self a h) o stray ≡ [] →
+    positional_fit : (o : Option Rule) (stray : Kinds) (word : Text) (w : Walk) (h : Held) →
+        option_map_or (λ a. positional_fault s.rules s.args_override_self a h) o stray ≡ [] →
         AllFit h.rows → AllFit (to_positional s.rules o word w h).held.rows
     positional_fit None stray word w h e k = k
     positional_fit (Some a) stray word w h e k = go (is_pending a h.pending && takes_several a) e
@@ -250,7 +267,8 @@ module _ (id : Text) (q : ValueParser) where
         go true e = k
         go false e = settled_fit s.rules good s.args_override_self h e k
 
-    step_fit : (word : Text) (w : Walk) (h : Held) (step : Step) → step_fault s w.position h step ≡ [] → AllFit h.rows → AllFit (after_step s.rules word w h step).held.rows
+    step_fit : (word : Text) (w : Walk) (h : Held) (step : Step) → step_fault s w.position h step ≡ [] → AllFit h.rows →
+        AllFit (after_step s.rules word w h step).held.rows
     step_fit word w h (next waiting) e k = k
     step_fit word w h (trailing position) e k = k
     step_fit word w h (subcommand name) e k = k
@@ -262,7 +280,8 @@ module _ (id : Text) (q : ValueParser) where
       where
         go : (stop : Option (Text × List Text)) →
             cond (is_some stop) [] (or_else (word_fault s names w.is_trailing w.waiting word w.held)
-            (step_fault s w.position (word_met s.rules names w.is_trailing w.waiting w.position word w.held).0 (word_met s.rules names w.is_trailing w.waiting w.position word w.held).1)) ≡ [] →
+            (step_fault s w.position (word_met s.rules names w.is_trailing w.waiting w.position word w.held).0
+            (word_met s.rules names w.is_trailing w.waiting w.position word w.held).1)) ≡ [] →
             AllFit (walked_from s.rules names stop w word).held.rows
         go (Some p) e = k
         go None e =
@@ -293,7 +312,8 @@ module _ (id : Text) (q : ValueParser) where
           absurd (omega arith)
       given (v ∷ vs) false is e = default_rows_fit a g (v ∷ vs) rows (both_empty _ _ e).1 k
 
-      go : (b : Bool) → cond (b || is_empty a.defaults) [] (given_default_fault a a.defaults) ≡ [] → AllFit (cond b rows (default_rows a.id (reading_by a) a.defaults rows))
+      go : (b : Bool) → cond (b || is_empty a.defaults) [] (given_default_fault a a.defaults) ≡ [] →
+          AllFit (cond b rows (default_rows a.id (reading_by a) a.defaults rows))
       go true e = k
       go false e = given a.defaults (is_empty a.defaults) refl e
 

@@ -9,7 +9,8 @@ use Rattle.cli_words.specs.Command.{AreModes, Reads}
 use Rattle.cli_words.specs.Plain.{Piece, ArePlain, mode_by}
 use Rattle.cli_words.proofs.PlainWords.{plain_passes, plain_mode}
 
-pub plain_answer : (words : List Text) (result : Result Mode WordFault) → (result ≡ Err OutOfMemory) ⊎ ((names : Bor (List (Bor Text))) × AreModes names × Reads names words result) →
+pub plain_answer : (words : List Text) (result : Result Mode WordFault) →
+    (result ≡ Err OutOfMemory) ⊎ ((names : Bor (List (Bor Text))) × AreModes names × Reads names words result) →
     (pieces : List Piece) → ArePlain pieces words → (result ≡ Err OutOfMemory) ⊎ (result ≡ Ok (mode_by pieces))
 plain_answer words result (inl memory) pieces plain = inl memory
 plain_answer words (Ok mode) (inr (names, modes, reads)) pieces plain =

@@ -1,5 +1,6 @@
 -- What a reading comes to behind the last word: defaults for what is absent, and the mode and numbers that are found.
-use Rattle.std.proofs.Common.{◌≡◌, ℕ, ◌∙◌, ap, sym, true, false, refl, List, [], ◌∷◌, ◌++◌, codes, map, Bool, ◌||◌, cond, if◌then◌else◌, Option, Some, None, IsSome, decimal, arith, ◌⊎◌, inl, inr}
+use Rattle.std.proofs.Common.{◌≡◌, ℕ, ◌∙◌, ap, sym, true, false, refl, List, [], ◌∷◌, ◌++◌, codes, map, Bool, ◌||◌, cond, if◌then◌else◌, Option, Some, None}
+use Rattle.std.proofs.Common.{IsSome, decimal, arith, ◌⊎◌, inl, inr}
 use Rattle.std.specs.Borrow.{Bor}
 use Rattle.std.specs.Prelude.{find, fold}
 use Rattle.std.specs.Str.{bytes_eq}
@@ -18,7 +19,8 @@ use Rattle.cli_words.proofs.Numerals.{decimal_as_read, decimal_number}
 
 -- ---- defaults fail nothing
 
-rules_are : (names : Bor (List (Bor Text))) → rules names ≡ rule_at names None ∷ rule_at names (Some Nodes) ∷ rule_at names (Some Seed) ∷ rule_at names (Some Room) ∷ rule_at names (Some Size) ∷ []
+rules_are : (names : Bor (List (Bor Text))) →
+    rules names ≡ rule_at names None ∷ rule_at names (Some Nodes) ∷ rule_at names (Some Seed) ∷ rule_at names (Some Room) ∷ rule_at names (Some Size) ∷ []
 unfolding clap_on_literals
 rules_are names = refl
 
@@ -49,7 +51,8 @@ none_fails : (rows : List Row) → defaults_fault rows [] ≡ []
 unfolding defaults_fault
 none_fails rows = refl
 
-one_fine : (rows : List Row) (a : Rule) (rest : List Rule) → default_fault rows a ≡ [] → defaults_fault (with_default rows a) rest ≡ [] → defaults_fault rows (a ∷ rest) ≡ []
+one_fine : (rows : List Row) (a : Rule) (rest : List Rule) → default_fault rows a ≡ [] → defaults_fault (with_default rows a) rest ≡ [] →
+    defaults_fault rows (a ∷ rest) ≡ []
 unfolding defaults_fault
 one_fine rows a rest h r = ap (λ (k : Kinds). or_else k (defaults_fault (with_default rows a) rest)) h ∙ r
 
@@ -81,7 +84,8 @@ default_text Room = codes "16"
 default_text Size = codes "10000"
 
 -- a default for what is there changes nothing
-kept : (names : Bor (List (Bor Text))) (s : Setting) (rows : List Row) → has_row (setting_name s) rows ≡ true → with_default rows (rule_at names (Some s)) ≡ rows
+kept : (names : Bor (List (Bor Text))) (s : Setting) (rows : List Row) → has_row (setting_name s) rows ≡ true →
+    with_default rows (rule_at names (Some s)) ≡ rows
 unfolding clap_on_literals
 kept names Nodes rows h = rw h refl
 kept names Seed rows h = rw h refl
@@ -89,7 +93,8 @@ kept names Room rows h = rw h refl
 kept names Size rows h = rw h refl
 
 -- and one for what is absent stands at the end
-added : (names : Bor (List (Bor Text))) (s : Setting) (rows : List Row) → has_row (setting_name s) rows ≡ false → with_default rows (rule_at names (Some s)) ≡ rows ++ default_row s (default_text s) ∷ []
+added : (names : Bor (List (Bor Text))) (s : Setting) (rows : List Row) → has_row (setting_name s) rows ≡ false →
+    with_default rows (rule_at names (Some s)) ≡ rows ++ default_row s (default_text s) ∷ []
 unfolding clap_on_literals
 added names Nodes rows h = rw h (with_values-absent (codes "nodes") WithoutMinus DefaultValue (codes "12") rows h)
 added names Seed rows h = rw h (with_values-absent (codes "seed") AsWritten DefaultValue (codes "7") rows h)
@@ -109,7 +114,8 @@ passed_over : (id : Text) (rows : List Row) (r : Row) → bytes_eq r.id id ≡ f
 passed_over id [] r h = rw h refl
 passed_over id (x ∷ xs) r h = ap (λ (o : Option Row). cond (bytes_eq x.id id) (Some x) o) (passed_over id xs r h)
 
-look_other : (names : Bor (List (Bor Text))) (s : Setting) (id : Text) (rows : List Row) → bytes_eq (setting_name s) id ≡ false → look id (with_default rows (rule_at names (Some s))) ≡ look id rows
+look_other : (names : Bor (List (Bor Text))) (s : Setting) (id : Text) (rows : List Row) → bytes_eq (setting_name s) id ≡ false →
+    look id (with_default rows (rule_at names (Some s))) ≡ look id rows
 look_other names s id rows h = by (has_row (setting_name s) rows) refl
   where
     by : (b : Bool) → has_row (setting_name s) rows ≡ b → look id (with_default rows (rule_at names (Some s))) ≡ look id rows
@@ -122,7 +128,8 @@ same_text Seed = refl
 same_text Room = refl
 same_text Size = refl
 
-look_own : (names : Bor (List (Bor Text))) (s : Setting) (rows : List Row) (r : Row) → look (setting_name s) rows ≡ Some r → look (setting_name s) (with_default rows (rule_at names (Some s))) ≡ Some r
+look_own : (names : Bor (List (Bor Text))) (s : Setting) (rows : List Row) (r : Row) → look (setting_name s) rows ≡ Some r →
+    look (setting_name s) (with_default rows (rule_at names (Some s))) ≡ Some r
 look_own names s rows r h = by (has_row (setting_name s) rows) refl
   where
     by : (b : Bool) → has_row (setting_name s) rows ≡ b → look (setting_name s) (with_default rows (rule_at names (Some s))) ≡ Some r
@@ -152,7 +159,8 @@ with_room names rows = with_default (with_seed names rows) (rule_at names (Some 
 whole_is : (names : Bor (List (Bor Text))) (rows : List Row) → whole names rows ≡ with_default (with_room names rows) (rule_at names (Some Size))
 whole_is names rows =
     ap (λ (rs : List Rule). fold with_default rows rs) (rules_are names) ∙
-    ap (λ (first : List Row). with_default (with_default (with_default (with_default first (rule_at names (Some Nodes))) (rule_at names (Some Seed))) (rule_at names (Some Room))) (rule_at names (Some Size))) (mode_kept names rows)
+    ap (λ (first : List Row). with_default (with_default (with_default (with_default first (rule_at names (Some Nodes))) (rule_at names (Some Seed)))
+    (rule_at names (Some Room))) (rule_at names (Some Size))) (mode_kept names rows)
 
 -- neither the room nor the size hides another argument
 look_in_whole : (names : Bor (List (Bor Text))) (id : Text) (rows : List Row) → bytes_eq (codes "room") id ≡ false → bytes_eq (codes "size") id ≡ false →
@@ -163,7 +171,8 @@ look_in_whole names id rows room size =
 
 mode_in_whole : (names : Bor (List (Bor Text))) (rows : List Row) → look (codes "mode") (whole names rows) ≡ look (codes "mode") rows
 mode_in_whole names rows =
-    look_in_whole names (codes "mode") rows refl refl ∙ look_other names Seed (codes "mode") (with_nodes names rows) refl ∙ look_other names Nodes (codes "mode") rows refl
+    look_in_whole names (codes "mode") rows refl refl ∙ look_other names Seed (codes "mode") (with_nodes names rows) refl
+    ∙ look_other names Nodes (codes "mode") rows refl
 
 nodes_in_whole : (names : Bor (List (Bor Text))) (rows : List Row) → look (codes "nodes") (whole names rows) ≡ look (codes "nodes") (with_nodes names rows)
 nodes_in_whole names rows = look_in_whole names (codes "nodes") rows refl refl ∙ look_other names Seed (codes "nodes") (with_nodes names rows) refl
@@ -189,7 +198,8 @@ mode_found (Joined Size n ∷ pieces) m h = mode_found pieces m h
 -- a number that they set is found, in its range; else it is absent
 abbrev IsSaid : Setting → ℕ → List Piece → Type 0
 IsSaid s otherwise pieces =
-    ((look (setting_name s) (map row_of pieces) ≡ Some (row_at (Some s) (decimal (number_said (setting_name s) otherwise pieces)))) × InRange s (number_said (setting_name s) otherwise pieces))
+    ((look (setting_name s) (map row_of pieces) ≡ Some (row_at (Some s) (decimal (number_said (setting_name s) otherwise pieces))))
+    × InRange s (number_said (setting_name s) otherwise pieces))
     ⊎ ((has_row (setting_name s) (map row_of pieces) ≡ false) × (number_said (setting_name s) otherwise pieces ≡ otherwise))
 
 nodes_said : (otherwise : ℕ) (pieces : List Piece) → EachPiece pieces → IsSaid Nodes otherwise pieces
@@ -225,7 +235,8 @@ nodes_are names pieces each = by (nodes_said 12 pieces each)
     by : IsSaid Nodes 12 pieces → number_of (codes "nodes") 4294967295 12 (whole names (map row_of pieces)) ≡ number_said (codes "nodes") 12 pieces
     by (inl h) =
         let low = h.1.0 in let high = h.1.1 in
-        let found = nodes_in_whole names (map row_of pieces) ∙ look_own names Nodes (map row_of pieces) (row_at (Some Nodes) (decimal (number_said (codes "nodes") 12 pieces))) h.0 in
+        let found = nodes_in_whole names (map row_of pieces)
+        ∙ look_own names Nodes (map row_of pieces) (row_at (Some Nodes) (decimal (number_said (codes "nodes") 12 pieces))) h.0 in
         let as_read = decimal_as_read (number_said (codes "nodes") 12 pieces) (omega arith) in
         rw (found, as_read) (decimal_number (number_said (codes "nodes") 12 pieces) 4294967295 12 (omega arith) (omega arith))
     by (inr h) =
@@ -233,13 +244,15 @@ nodes_are names pieces each = by (nodes_said 12 pieces each)
         rw found (sym h.1)
 
 -- the default of the nodes is none of the seed
-seed_in_nodes : (names : Bor (List (Bor Text))) (rows : List Row) → has_row (codes "seed") rows ≡ false → has_row (codes "seed") (with_default rows (rule_at names (Some Nodes))) ≡ false
+seed_in_nodes : (names : Bor (List (Bor Text))) (rows : List Row) → has_row (codes "seed") rows ≡ false →
+    has_row (codes "seed") (with_default rows (rule_at names (Some Nodes))) ≡ false
 seed_in_nodes names rows h = by (has_row (codes "nodes") rows) refl
   where
     by : (b : Bool) → has_row (codes "nodes") rows ≡ b → has_row (codes "seed") (with_default rows (rule_at names (Some Nodes))) ≡ false
     by true e = ap (λ (rs : List Row). has_row (codes "seed") rs) (kept names Nodes rows e) ∙ h
     by false e =
-        ap (λ (rs : List Row). has_row (codes "seed") rs) (added names Nodes rows e) ∙ has_row-more (codes "seed") rows (default_row Nodes (default_text Nodes)) ∙
+        ap (λ (rs : List Row). has_row (codes "seed") rs) (added names Nodes rows e)
+        ∙ has_row-more (codes "seed") rows (default_row Nodes (default_text Nodes)) ∙
         rw h refl
 
 seed_is : (names : Bor (List (Bor Text))) (pieces : List Piece) → EachPiece pieces →
@@ -249,10 +262,13 @@ seed_is names pieces each = by (seed_said 7 pieces each)
     by : IsSaid Seed 7 pieces → number_of (codes "seed") 18446744073709551615 7 (whole names (map row_of pieces)) ≡ number_said (codes "seed") 7 pieces
     by (inl h) =
         let fits = h.1 in
-        let found = seed_in_whole names (map row_of pieces) ∙ look_own names Seed (with_nodes names (map row_of pieces)) (row_at (Some Seed) (decimal (number_said (codes "seed") 7 pieces))) (look_other names Nodes (codes "seed") (map row_of pieces) refl ∙ h.0) in
+        let found = seed_in_whole names (map row_of pieces)
+        ∙ look_own names Seed (with_nodes names (map row_of pieces)) (row_at (Some Seed) (decimal (number_said (codes "seed") 7 pieces)))
+        (look_other names Nodes (codes "seed") (map row_of pieces) refl ∙ h.0) in
         rw found (decimal_number (number_said (codes "seed") 7 pieces) 18446744073709551615 7 (omega arith) fits)
     by (inr h) =
-        let found = seed_in_whole names (map row_of pieces) ∙ look_default names Seed (with_nodes names (map row_of pieces)) (seed_in_nodes names (map row_of pieces) h.0) in
+        let found = seed_in_whole names (map row_of pieces)
+        ∙ look_default names Seed (with_nodes names (map row_of pieces)) (seed_in_nodes names (map row_of pieces) h.0) in
         rw found (sym h.1)
 
 some_mode : (pieces : List Piece) → IsSome (mode_said pieces) → (m : Text) × (mode_said pieces ≡ Some m)
@@ -262,20 +278,25 @@ some_mode pieces h = by (mode_said pieces) h refl
     by None some e = absurd (let no : false ≡ true = some in cc)
     by (Some m) some e = (m, e)
 
-pub mode_is : (names : Bor (List (Bor Text))) (pieces : List Piece) → EachPiece pieces → IsSome (mode_said pieces) → mode_of (whole names (map row_of pieces)) ≡ mode_by pieces
+pub mode_is : (names : Bor (List (Bor Text))) (pieces : List Piece) → EachPiece pieces → IsSome (mode_said pieces) →
+    mode_of (whole names (map row_of pieces)) ≡ mode_by pieces
 mode_is names pieces each some =
     let mode = some_mode pieces some in
     let found = mode_in_whole names (map row_of pieces) ∙ mode_found pieces mode.0 mode.1 in
     let said = mode.1 in
-    ap (λ (n : ℕ). mode_named (first_of (codes "mode") (whole names (map row_of pieces))) n (number_of (codes "seed") 18446744073709551615 7 (whole names (map row_of pieces)))) (nodes_are names pieces each) ∙
-    ap (λ (n : ℕ). mode_named (first_of (codes "mode") (whole names (map row_of pieces))) (number_said (codes "nodes") 12 pieces) n) (seed_is names pieces each) ∙
-    ap (λ (o : Option Text). mode_named o (number_said (codes "nodes") 12 pieces) (number_said (codes "seed") 7 pieces)) (named (whole names (map row_of pieces)) mode.0 found ∙ sym said)
+    ap (λ (n : ℕ). mode_named (first_of (codes "mode") (whole names (map row_of pieces))) n
+    (number_of (codes "seed") 18446744073709551615 7 (whole names (map row_of pieces)))) (nodes_are names pieces each) ∙
+    ap (λ (n : ℕ). mode_named (first_of (codes "mode") (whole names (map row_of pieces))) (number_said (codes "nodes") 12 pieces) n)
+    (seed_is names pieces each) ∙
+    ap (λ (o : Option Text). mode_named o (number_said (codes "nodes") 12 pieces) (number_said (codes "seed") 7 pieces))
+    (named (whole names (map row_of pieces)) mode.0 found ∙ sym said)
   where
     named : (rows : List Row) (m : Text) → look (codes "mode") rows ≡ Some (row_at None m) → first_of (codes "mode") rows ≡ Some m
     named rows m h = rw h refl
 
 -- the mode is given, so that nothing is missing
-pub nothing_missing : (names : Bor (List (Bor Text))) (pieces : List Piece) → IsSome (mode_said pieces) → check_fault (top names) (whole names (map row_of pieces)) false ≡ []
+pub nothing_missing : (names : Bor (List (Bor Text))) (pieces : List Piece) → IsSome (mode_said pieces) →
+    check_fault (top names) (whole names (map row_of pieces)) false ≡ []
 unfolding clap_on_literals
 nothing_missing names pieces some =
     let mode = some_mode pieces some in

@@ -1,5 +1,6 @@
 -- The number of nodes that a reading answers is 2 to 256: the option's parser takes no other.
-use Rattle.std.proofs.Common.{◌≡◌, ◌≤◌, ◌⊎◌, inl, inr, ℕ, Bool, cond, true, false, codes, refl, sym, true≢false, subst, lit<, arith, List, [], ◌∷◌, Option, Some, None, Result, Ok, Err}
+use Rattle.std.proofs.Common.{◌≡◌, ◌≤◌, ◌⊎◌, inl, inr, ℕ, Bool, cond, true, false, codes, refl, sym, true≢false, subst, lit<, arith, List, [], ◌∷◌, Option}
+use Rattle.std.proofs.Common.{Some, None, Result, Ok, Err}
 use Rattle.std.specs.Borrow.{Bor}
 use Rattle.std.specs.Option.{option_map_or, option_and_then}
 use Rattle.std.specs.Prelude.{IfOk, find, option_map, pos, slice_get}
@@ -48,7 +49,8 @@ rules_good names = (
   ),
 )
 
-matches_fit : (names : Bor (List (Bor Text))) (words : List Text) → fault_of (command_of names) words ≡ [] → AllFit nodes parser (matches_of (command_of names) words)
+matches_fit : (names : Bor (List (Bor Text))) (words : List Text) → fault_of (command_of names) words ≡ [] →
+    AllFit nodes parser (matches_of (command_of names) words)
 matches_fit names words e =
     level_fit nodes parser (built (command_of names)).top (rules_good names) (names_of (built (command_of names))) nothing_held
     (argument_words (command_of names) words) _ _ e tt
@@ -107,7 +109,8 @@ mode_in_range names words e =
     named_in_range (first_of (codes "mode") rows) (number_of nodes 4294967295 12 rows) _ (number_in_range rows (matches_fit names words e))
 
 -- a mode that is answered has 2 to 256 nodes
-pub read_in_range : (words : List Text) (result : Result Mode WordFault) → (result ≡ Err OutOfMemory) ⊎ ((names : Bor (List (Bor Text))) × AreModes names × Reads names words result) →
+pub read_in_range : (words : List Text) (result : Result Mode WordFault) →
+    (result ≡ Err OutOfMemory) ⊎ ((names : Bor (List (Bor Text))) × AreModes names × Reads names words result) →
     IfOk result HasNodesInRange
 read_in_range words (Ok mode) (inl memory) = cc
 read_in_range words (Ok mode) (inr (names, modes, reads)) = subst HasNodesInRange (sym reads.ok.1) (mode_in_range names words reads.ok.0)

@@ -9,18 +9,21 @@ use Rattle.clap.specs.declared.builder.value_parser.ValueParser.TheVariants as v
 use Rattle.clap.proofs.ValueTestLemmas.{accepts-Accepts, Accepts-accepts}
 use Rattle.cli_words.specs.Command.{number_in}
 
-number_when : (b : Bool) (most other : ℕ) (t : List ℕ) → is_unsigned_in 0 most t ≡ b → number_in most other t ≡ cond b (digits_value 10 (without_leading_plus t)) other
+number_when : (b : Bool) (most other : ℕ) (t : List ℕ) → is_unsigned_in 0 most t ≡ b →
+    number_in most other t ≡ cond b (digits_value 10 (without_leading_plus t)) other
 number_when b most other t e = ap (λ (v : Bool). cond v (digits_value 10 (without_leading_plus t)) other) e
 
 -- where it parses
-pub number_some : (E : Type 0) (k most other : ℕ) (t : List ℕ) (n : ℕ) → most + 1 ≡ 2 ^ k → most < 2 ^ 64 → ReadsOne {E = E} (ParsesUnsigned k 10) t (Some n) → n ≡ number_in most other t
+pub number_some : (E : Type 0) (k most other : ℕ) (t : List ℕ) (n : ℕ) → most + 1 ≡ 2 ^ k → most < 2 ^ 64 → ReadsOne {E = E} (ParsesUnsigned k 10) t (Some n) →
+    n ≡ number_in most other t
 number_some E k most other t n is wide reads =
     let in_range : IsUnsignedIn 0 most t = (reads.0.0, omega arith, omega arith, omega arith) in
     let passes : is_unsigned_in 0 most t ≡ true = Accepts-accepts false (vp.Unsigned 0 most) t in_range in
     reads.1 ∙ sym (number_when true most other t passes)
 
 -- where it does not
-pub number_none : (E : Type 0) (k most other : ℕ) (t : List ℕ) → most + 1 ≡ 2 ^ k → most < 2 ^ 64 → ReadsOne {E = E} (ParsesUnsigned k 10) t None → other ≡ number_in most other t
+pub number_none : (E : Type 0) (k most other : ℕ) (t : List ℕ) → most + 1 ≡ 2 ^ k → most < 2 ^ 64 → ReadsOne {E = E} (ParsesUnsigned k 10) t None →
+    other ≡ number_in most other t
 number_none E k most other t is wide reads = go (is_unsigned_in 0 most t) refl
   where
     go : (b : Bool) → is_unsigned_in 0 most t ≡ b → other ≡ number_in most other t

@@ -44,10 +44,13 @@ abbrev AllAbsent : List Row → List Piece → Type 0
 AllAbsent rows [] = Unit {0}
 AllAbsent rows (piece ∷ pieces) = Absent (subject_of piece) rows × AllAbsent rows pieces
 
-still_absent : (rows : List Row) (first : Piece) (pieces : List Piece) → AllAbsent rows pieces → All (λ (t : Text). subject_of first ≢ t) (map subject_of pieces) → AllAbsent (rows ++ row_of first ∷ []) pieces
+still_absent : (rows : List Row) (first : Piece) (pieces : List Piece) → AllAbsent rows pieces →
+    All (λ (t : Text). subject_of first ≢ t) (map subject_of pieces) → AllAbsent (rows ++ row_of first ∷ []) pieces
 still_absent rows first [] h others = tt
 still_absent rows first (piece ∷ pieces) h others = (
-  has_row-more (subject_of piece) rows (row_of first) ∙ rw h.0 (ap (λ (t : Text). bytes_eq t (subject_of piece)) (row_subject first) ∙ texts_differ (subject_of first) (subject_of piece) (All-head (λ (t : Text). subject_of first ≢ t) (subject_of piece) (map subject_of pieces) others)),
+  has_row-more (subject_of piece) rows (row_of first)
+      ∙ rw h.0 (ap (λ (t : Text). bytes_eq t (subject_of piece)) (row_subject first)
+      ∙ texts_differ (subject_of first) (subject_of piece) (All-head (λ (t : Text). subject_of first ≢ t) (subject_of piece) (map subject_of pieces) others)),
   still_absent rows first pieces h.1 (All-tail (λ (t : Text). subject_of first ≢ t) (subject_of piece) (map subject_of pieces) others),
 )
 
@@ -61,7 +64,8 @@ fresh_pieces : (rows : List Row) (pieces : List Piece) → AllAbsent rows pieces
 fresh_pieces rows [] h once = tt
 fresh_pieces rows (piece ∷ pieces) h once = (
   h.0,
-  fresh_pieces (rows ++ row_of piece ∷ []) pieces (still_absent rows piece pieces h.1 (pairs_head (subject_of piece) (map subject_of pieces) once)) (pairs_tail (subject_of piece) (map subject_of pieces) once),
+  fresh_pieces (rows ++ row_of piece ∷ []) pieces (still_absent rows piece pieces h.1 (pairs_head (subject_of piece) (map subject_of pieces) once))
+      (pairs_tail (subject_of piece) (map subject_of pieces) once),
 )
 
 none_yet : (pieces : List Piece) → AllAbsent [] pieces
@@ -71,22 +75,28 @@ none_yet (piece ∷ pieces) = (refl, none_yet pieces)
 -- ---- behind the walk
 
 abbrev after_walk : Shape → Held → Kinds
-after_walk s end = or_else (settle_fault s.rules s.args_override_self end) (or_else (defaults_fault (settled s.rules end).rows s.rules) (check_fault s (finished s.rules end) false))
+after_walk s end = or_else (settle_fault s.rules s.args_override_self end)
+    (or_else (defaults_fault (settled s.rules end).rows s.rules) (check_fault s (finished s.rules end) false))
 
-level_fine : (s : Shape) (words : List Text) (end : Walk) → walk s.rules [] nothing_held words ≡ end → walk_fault s [] (walk_from nothing_held) words ≡ [] → after_walk s end.held ≡ [] →
+level_fine : (s : Shape) (words : List Text) (end : Walk) → walk s.rules [] nothing_held words ≡ end → walk_fault s [] (walk_from nothing_held) words ≡ [] →
+    after_walk s end.held ≡ [] →
     level_fault s [] nothing_held words false [] ≡ []
 level_fine s words end is w a = let P : Walk → Type 0 = λ x. after_walk s x.held ≡ [] in rw w (subst P (sym is) a)
 
 -- a walk that stops at no subcommand and fails nothing is no fault
-reads_fine : (names : Bor (List (Bor Text))) (first : Text) (words : List Text) (end : Walk) → walk (rules names) [] nothing_held words ≡ end → end.stopped ≡ None →
+reads_fine : (names : Bor (List (Bor Text))) (first : Text) (words : List Text) (end : Walk) → walk (rules names) [] nothing_held words ≡ end →
+    end.stopped ≡ None →
     walk_fault (top names) [] (walk_from nothing_held) words ≡ [] → after_walk (top names) end.held ≡ [] → fault_of (command_of names) (first ∷ words) ≡ []
 reads_fine names first words end is none w a =
-    let P : Option (Text × List Text) → Type 0 = λ stop. level_fault (top names) [] nothing_held words (is_some (entered (built (command_of names)) stop)) (entered_fault (built (command_of names)) stop) ≡ [] in
+    let P : Option (Text × List Text) → Type 0 =
+    λ stop. level_fault (top names) [] nothing_held words (is_some (entered (built (command_of names)) stop))
+    (entered_fault (built (command_of names)) stop) ≡ [] in
     subst P (sym (ap (λ (x : Walk). x.stopped) is ∙ none)) (level_fine (top names) words end is w a)
 
 module _ (names : Bor (List (Bor Text))) (modes : AreModes names) (pieces : List Piece) (words : List Text) (plain : ArePlain pieces words) where
   over : GoesOver names (walk_from nothing_held) (flat_map words_of pieces) (map row_of pieces)
-  over = goes_over names modes pieces [] None 1 [] (all_settled names []) (λ h. refl) (each_piece pieces plain.allowed) (fresh_pieces [] pieces (none_yet pieces) plain.once)
+  over = goes_over names modes pieces [] None 1 [] (all_settled names []) (λ h. refl) (each_piece pieces plain.allowed)
+      (fresh_pieces [] pieces (none_yet pieces) plain.once)
 
   abbrev behind : List Row → Kinds
   behind rows = or_else (defaults_fault rows (rules names)) (check_fault (top names) (whole names rows) false)

@@ -18,6 +18,7 @@ pub is_free_command : (names : Bor (List (Bor Text))) → is_simple_and_free (co
 unfolding clap_on_literals
 is_free_command names = refl
 
-pub one_more : (old new : Command) (a : Arg) (before : App) (rule : Rule) → AddsArg old a new → a.global ≡ false → app_of old ≡ before → rule_of a ≡ rule → app_of new ≡ with_rule before rule
+pub one_more : (old new : Command) (a : Arg) (before : App) (rule : Rule) → AddsArg old a new → a.global ≡ false → app_of old ≡ before → rule_of a ≡ rule →
+    app_of new ≡ with_rule before rule
 one_more old new a before rule adds local is rules =
     adds.shape local ∙ ap (λ (app : App). with_rule app (rule_of a)) is ∙ ap (λ (r : Rule). with_rule before r) rules

@@ -56,7 +56,8 @@ row_at k v = value_row (slot_name k) (reading_at k) CommandLine v
 
 -- where the walk stands between two words
 abbrev pub stand : List Row → Option (Text × List Text) → Waiting → ℕ → Walk
-stand rows pending waiting position = record { held = record { rows = rows; pending = pending; skip = 0 }; waiting = waiting; position = position; is_trailing = false; stopped = None }
+stand rows pending waiting position = record
+    { held = record { rows = rows; pending = pending; skip = 0 }; waiting = waiting; position = position; is_trailing = false; stopped = None }
 
 -- what is settled there, and that nothing fails in that
 pub record IsSettled (names : Bor (List (Bor Text))) (held : List Row) (pending : Option (Text × List Text)) (rows : List Row) : Type 0 where
@@ -104,7 +105,8 @@ abbrev pub joined_word : Setting → Text → Text
 joined_word s v = codes "--" ++ (setting_name s ++ (codes "=" ++ v))
 
 joined_walked : (names : Bor (List (Bor Text))) (s : Setting) (v : Text) (held : List Row) (pending : Option (Text × List Text)) (p : ℕ) →
-    walked (rules names) [] (stand held pending idle p) (joined_word s v) ≡ stand (used (rule_at names (Some s)) (v ∷ []) (settled_rows (rules names) pending held)) None idle p
+    walked (rules names) [] (stand held pending idle p) (joined_word s v) ≡ stand
+    (used (rule_at names (Some s)) (v ∷ []) (settled_rows (rules names) pending held)) None idle p
 unfolding clap_on_literals
 joined_walked names Nodes v held pending p = refl
 joined_walked names Seed v held pending p = refl
@@ -113,7 +115,8 @@ joined_walked names Size v held pending p = refl
 
 joined_fault : (names : Bor (List (Bor Text))) (s : Setting) (v : Text) (held : List Row) (pending : Option (Text × List Text)) (p : ℕ) →
     turn_fault (top names) [] (stand held pending idle p) (joined_word s v) ≡
-    or_else (or_else (settle_fault (rules names) false (record { rows = held; pending = pending; skip = 0 })) (use_fault false (rule_at names (Some s)) (v ∷ []) (settled_rows (rules names) pending held))) []
+    or_else (or_else (settle_fault (rules names) false (record { rows = held; pending = pending; skip = 0 }))
+    (use_fault false (rule_at names (Some s)) (v ∷ []) (settled_rows (rules names) pending held))) []
 unfolding clap_on_literals
 joined_fault names Nodes v held pending p = refl
 joined_fault names Seed v held pending p = refl
@@ -132,7 +135,8 @@ pub joined_turn : (names : Bor (List (Bor Text))) (s : Setting) (v : Text) (held
     turn_fault (top names) [] (stand held pending idle p) (joined_word s v) ≡ []
 joined_turn names s v held pending p rows at new fits =
     joined_fault names s v held pending p ∙
-    or_else_both _ [] (or_else_both _ _ at.fine (ap (λ (rs : List Row). use_fault false (rule_at names (Some s)) (v ∷ []) rs) at.rows_are ∙ passes names (Some s) v rows new fits)) refl
+    or_else_both _ [] (or_else_both _ _ at.fine
+    (ap (λ (rs : List Row). use_fault false (rule_at names (Some s)) (v ∷ []) rs) at.rows_are ∙ passes names (Some s) v rows new fits)) refl
 
 -- ---- an option and its number apart
 
@@ -140,7 +144,8 @@ abbrev pub option_word : Setting → Text
 option_word s = codes "--" ++ setting_name s
 
 pub option_walked : (names : Bor (List (Bor Text))) (s : Setting) (held : List Row) (pending : Option (Text × List Text)) (p : ℕ) →
-    walked (rules names) [] (stand held pending idle p) (option_word s) ≡ stand (settled_rows (rules names) pending held) (Some (setting_name s, [])) (option (setting_name s)) p
+    walked (rules names) [] (stand held pending idle p) (option_word s) ≡ stand (settled_rows (rules names) pending held) (Some (setting_name s, []))
+    (option (setting_name s)) p
 unfolding clap_on_literals
 option_walked names Nodes held pending p = refl
 option_walked names Seed held pending p = refl
@@ -148,7 +153,8 @@ option_walked names Room held pending p = refl
 option_walked names Size held pending p = refl
 
 option_fault : (names : Bor (List (Bor Text))) (s : Setting) (held : List Row) (pending : Option (Text × List Text)) (p : ℕ) →
-    turn_fault (top names) [] (stand held pending idle p) (option_word s) ≡ or_else (settle_fault (rules names) false (record { rows = held; pending = pending; skip = 0 })) []
+    turn_fault (top names) [] (stand held pending idle p) (option_word s) ≡ or_else
+    (settle_fault (rules names) false (record { rows = held; pending = pending; skip = 0 })) []
 unfolding clap_on_literals
 option_fault names Nodes held pending p = refl
 option_fault names Seed held pending p = refl
@@ -223,21 +229,27 @@ IsModeName m = (m ≡ codes "play") ⊎ (m ≡ codes "big")
 mode_walked_as : (names : Bor (List (Bor Text))) (m : Text) (held : List Row) (pending : Option (Text × List Text)) → IsModeName m →
     walked (rules names) [] (stand held pending idle 1) m ≡ stand (settled_rows (rules names) pending held) (Some (codes "mode", m ∷ [])) idle 2
 unfolding clap_on_literals
-mode_walked_as names m held pending (inl e) = let h = and_false (option_map_or (λ (q : Text × List Text). bytes_eq q.0 (codes "mode")) pending false) in rw (e, h) refl
-mode_walked_as names m held pending (inr e) = let h = and_false (option_map_or (λ (q : Text × List Text). bytes_eq q.0 (codes "mode")) pending false) in rw (e, h) refl
+mode_walked_as names m held pending (inl e) = let h =
+    and_false (option_map_or (λ (q : Text × List Text). bytes_eq q.0 (codes "mode")) pending false) in rw (e, h) refl
+mode_walked_as names m held pending (inr e) = let h =
+    and_false (option_map_or (λ (q : Text × List Text). bytes_eq q.0 (codes "mode")) pending false) in rw (e, h) refl
 
 mode_fault_is : (names : Bor (List (Bor Text))) (m : Text) (held : List Row) (pending : Option (Text × List Text)) → IsModeName m →
     turn_fault (top names) [] (stand held pending idle 1) m ≡ settle_fault (rules names) false (record { rows = held; pending = pending; skip = 0 })
 unfolding clap_on_literals
-mode_fault_is names m held pending (inl e) = let h = and_false (option_map_or (λ (q : Text × List Text). bytes_eq q.0 (codes "mode")) pending false) in rw (e, h) refl
-mode_fault_is names m held pending (inr e) = let h = and_false (option_map_or (λ (q : Text × List Text). bytes_eq q.0 (codes "mode")) pending false) in rw (e, h) refl
+mode_fault_is names m held pending (inl e) = let h =
+    and_false (option_map_or (λ (q : Text × List Text). bytes_eq q.0 (codes "mode")) pending false) in rw (e, h) refl
+mode_fault_is names m held pending (inr e) = let h =
+    and_false (option_map_or (λ (q : Text × List Text). bytes_eq q.0 (codes "mode")) pending false) in rw (e, h) refl
 
-pub mode_step : (names : Bor (List (Bor Text))) (m : Text) (held : List Row) (pending : Option (Text × List Text)) (rows : List Row) → IsModeName m → IsSettled names held pending rows →
+pub mode_step : (names : Bor (List (Bor Text))) (m : Text) (held : List Row) (pending : Option (Text × List Text)) (rows : List Row) → IsModeName m →
+    IsSettled names held pending rows →
     walked (rules names) [] (stand held pending idle 1) m ≡ stand rows (Some (codes "mode", m ∷ [])) idle 2
 mode_step names m held pending rows is at =
     mode_walked_as names m held pending is ∙ ap (λ (rs : List Row). stand rs (Some (codes "mode", m ∷ [])) idle 2) at.rows_are
 
-pub mode_turn : (names : Bor (List (Bor Text))) (m : Text) (held : List Row) (pending : Option (Text × List Text)) (rows : List Row) → IsModeName m → IsSettled names held pending rows →
+pub mode_turn : (names : Bor (List (Bor Text))) (m : Text) (held : List Row) (pending : Option (Text × List Text)) (rows : List Row) → IsModeName m →
+    IsSettled names held pending rows →
     turn_fault (top names) [] (stand held pending idle 1) m ≡ []
 mode_turn names m held pending rows is at = mode_fault_is names m held pending is ∙ at.fine
 

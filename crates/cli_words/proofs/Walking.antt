@@ -1,5 +1,6 @@
 -- The walk over plain words, from the first to the last.
-use Rattle.std.proofs.Common.{◌≡◌, ◌<◌, ◌^◌, ℕ, ◌∙◌, ap, sym, true, false, refl, List, [], ◌∷◌, ◌++◌, codes, map, Bool, ◌||◌, Option, Some, None, subst, decimal, append_assoc, append-nil, arith}
+use Rattle.std.proofs.Common.{◌≡◌, ◌<◌, ◌^◌, ℕ, ◌∙◌, ap, sym, true, false, refl, List, [], ◌∷◌, ◌++◌, codes, map, Bool, ◌||◌, Option, Some, None, subst}
+use Rattle.std.proofs.Common.{decimal, append_assoc, append-nil, arith}
 use Rattle.std.specs.Borrow.{Bor}
 use Rattle.std.specs.List.{flat_map}
 use Rattle.std.specs.Prelude.{fold}
@@ -11,7 +12,8 @@ use Rattle.clap.specs.ValueTests.{accepts}
 use Rattle.cli_words.specs.Command.{AreModes}
 use Rattle.cli_words.specs.Plain.{Setting, Nodes, Seed, Room, Size, setting_name, InRange, Piece, Names, Apart, Joined, words_of, IsPiece, subject_of}
 use Rattle.cli_words.proofs.Rows.{neither, has_row-more}
-use Rattle.cli_words.proofs.Steps.{top, rules, Slot, parser_at, row_at, stand, IsSettled, joined_step, joined_turn, option_walked, option_turn, value_walked, value_turn, pending_settled, all_settled, mode_step, mode_turn, mode_accepted}
+use Rattle.cli_words.proofs.Steps.{top, rules, Slot, parser_at, row_at, stand, IsSettled, joined_step, joined_turn, option_walked, option_turn, value_walked}
+use Rattle.cli_words.proofs.Steps.{value_turn, pending_settled, all_settled, mode_step, mode_turn, mode_accepted}
 use Rattle.cli_words.proofs.Numerals.{decimal_is_plain, decimal_signed, decimal_unsigned}
 
 abbrev pub slot_of : Piece → Slot
@@ -38,7 +40,8 @@ Fresh rows [] = Unit {0}
 Fresh rows (piece ∷ pieces) = (has_row (subject_of piece) rows ≡ false) × Fresh (rows ++ row_of piece ∷ []) pieces
 
 -- what an option takes
-pub number_accepted : (names : Bor (List (Bor Text))) (s : Setting) (n : ℕ) → InRange s n → (n < 2 ^ 64) × (accepts false (parser_at names (Some s)) (decimal n) ≡ true)
+pub number_accepted : (names : Bor (List (Bor Text))) (s : Setting) (n : ℕ) → InRange s n →
+    (n < 2 ^ 64) × (accepts false (parser_at names (Some s)) (decimal n) ≡ true)
 number_accepted names Nodes n h = let low = h.0 in let high = h.1 in (omega arith, decimal_signed n 2 256 low high (omega arith))
 number_accepted names Seed n h = (h, decimal_unsigned n h)
 number_accepted names Room n h = let low = h.0 in let high = h.1 in (omega arith, decimal_signed n 1 4096 low high (omega arith))
@@ -57,13 +60,15 @@ none_left : (s : Shape) (w : Walk) → walk_fault s [] w [] ≡ []
 unfolding walk_fault
 none_left s w = refl
 
-word_ok : (s : Shape) (w : Walk) (x : Text) (rest : List Text) → turn_fault s [] w x ≡ [] → walk_fault s [] (walked s.rules [] w x) rest ≡ [] → walk_fault s [] w (x ∷ rest) ≡ []
+word_ok : (s : Shape) (w : Walk) (x : Text) (rest : List Text) → turn_fault s [] w x ≡ [] → walk_fault s [] (walked s.rules [] w x) rest ≡ [] →
+    walk_fault s [] w (x ∷ rest) ≡ []
 unfolding walk_fault
 word_ok s w x rest t r = rw t r
 
 -- one word more in front
 further : (names : Bor (List (Bor Text))) (from next : Walk) (word : Text) (words : List Text) (rows : List Row) →
-    walked (rules names) [] from word ≡ next → turn_fault (top names) [] from word ≡ [] → GoesOver names next words rows → GoesOver names from (word ∷ words) rows
+    walked (rules names) [] from word ≡ next → turn_fault (top names) [] from word ≡ [] → GoesOver names next words rows →
+    GoesOver names from (word ∷ words) rows
 further names from next word words rows step turn g = record {
   held = g.held;
   pending = g.pending;
@@ -91,7 +96,8 @@ still_first s v rows p h e =
 
 mode_is_there : (m : Text) (rows : List Row) → has_row (codes "mode") (rows ++ row_at None m ∷ []) ≡ false → ⊥
 mode_is_there m rows e =
-    let yes : has_row (codes "mode") (rows ++ row_at None m ∷ []) ≡ true = has_row-more (codes "mode") rows (row_at None m) ∙ or_true (has_row (codes "mode") rows) in
+    let yes : has_row (codes "mode") (rows ++ row_at None m ∷ []) ≡ true =
+    has_row-more (codes "mode") rows (row_at None m) ∙ or_true (has_row (codes "mode") rows) in
     let both : true ≡ false = sym yes ∙ e in cc
 
 module _ (names : Bor (List (Bor Text))) (modes : AreModes names) where
@@ -112,25 +118,31 @@ module _ (names : Bor (List (Bor Text))) (modes : AreModes names) where
       let rest = goes_over pieces rows (Some (codes "mode", m ∷ [])) 2 next
       (pending_settled names None m rows fresh.0 (mode_accepted names m modes each.0)) (λ e. absurd (mode_is_there m rows e)) each.1 fresh.1 in
       subst (λ (q : ℕ). GoesOver names (stand held pending idle q) (m ∷ flat_map words_of pieces) (rows ++ row_at None m ∷ map row_of pieces)) (sym here)
-      (further names (stand held pending idle 1) (stand rows (Some (codes "mode", m ∷ [])) idle 2) m (flat_map words_of pieces) (rows ++ row_at None m ∷ map row_of pieces)
+      (further names (stand held pending idle 1) (stand rows (Some (codes "mode", m ∷ [])) idle 2) m (flat_map words_of pieces)
+      (rows ++ row_at None m ∷ map row_of pieces)
       (mode_step names m held pending rows each.0 at) (mode_turn names m held pending rows each.0 at)
-      (subst (λ (rs : List Row). GoesOver names (stand rows (Some (codes "mode", m ∷ [])) idle 2) (flat_map words_of pieces) rs) (append_assoc rows (row_at None m ∷ []) (map row_of pieces)) rest))
+      (subst (λ (rs : List Row). GoesOver names (stand rows (Some (codes "mode", m ∷ [])) idle 2) (flat_map words_of pieces) rs)
+      (append_assoc rows (row_at None m ∷ []) (map row_of pieces)) rest))
   goes_over (Joined s n ∷ pieces) held pending p rows at first each fresh =
       let fits = number_accepted names s n each.0 in
       let next = rows ++ row_at (Some s) (decimal n) ∷ [] in
       let rest = goes_over pieces next None p next (all_settled names next) (still_first s (decimal n) rows p first) each.1 fresh.1 in
       further names (stand held pending idle p) (stand next None idle p) _ (flat_map words_of pieces) (rows ++ row_at (Some s) (decimal n) ∷ map row_of pieces)
       (joined_step names s (decimal n) held pending p rows at fresh.0) (joined_turn names s (decimal n) held pending p rows at fresh.0 fits.1)
-      (subst (λ (rs : List Row). GoesOver names (stand next None idle p) (flat_map words_of pieces) rs) (append_assoc rows (row_at (Some s) (decimal n) ∷ []) (map row_of pieces)) rest)
+      (subst (λ (rs : List Row). GoesOver names (stand next None idle p) (flat_map words_of pieces) rs)
+      (append_assoc rows (row_at (Some s) (decimal n) ∷ []) (map row_of pieces)) rest)
   goes_over (Apart s n ∷ pieces) held pending p rows at first each fresh =
       let fits = number_accepted names s n each.0 in
       let next = rows ++ row_at (Some s) (decimal n) ∷ [] in
       let rest = goes_over pieces rows (Some (setting_name s, decimal n ∷ [])) p next
       (pending_settled names (Some s) (decimal n) rows fresh.0 fits.1) (still_first s (decimal n) rows p first) each.1 fresh.1 in
       let all : List Row = rows ++ row_at (Some s) (decimal n) ∷ map row_of pieces in
-      further names (stand held pending idle p) (stand rows (Some (setting_name s, [])) (option (setting_name s)) p) _ (decimal n ∷ flat_map words_of pieces) all
+      further names (stand held pending idle p) (stand rows (Some (setting_name s, [])) (option (setting_name s)) p) _
+      (decimal n ∷ flat_map words_of pieces) all
       (option_walked names s held pending p ∙ ap (λ (rs : List Row). stand rs (Some (setting_name s, [])) (option (setting_name s)) p) at.rows_are)
       (option_turn names s held pending p rows at)
-      (further names (stand rows (Some (setting_name s, [])) (option (setting_name s)) p) (stand rows (Some (setting_name s, decimal n ∷ [])) idle p) (decimal n) (flat_map words_of pieces) all
+      (further names (stand rows (Some (setting_name s, [])) (option (setting_name s)) p) (stand rows (Some (setting_name s, decimal n ∷ [])) idle p)
+      (decimal n) (flat_map words_of pieces) all
       (value_walked names s (decimal n) rows p (decimal_is_plain n fits.0)) (value_turn names s (decimal n) rows p (decimal_is_plain n fits.0))
-      (subst (λ (rs : List Row). GoesOver names (stand rows (Some (setting_name s, decimal n ∷ [])) idle p) (flat_map words_of pieces) rs) (append_assoc rows (row_at (Some s) (decimal n) ∷ []) (map row_of pieces)) rest))
+      (subst (λ (rs : List Row). GoesOver names (stand rows (Some (setting_name s, decimal n ∷ [])) idle p) (flat_map words_of pieces) rs)
+      (append_assoc rows (row_at (Some s) (decimal n) ∷ []) (map row_of pieces)) rest))

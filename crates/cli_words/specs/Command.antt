@@ -1,5 +1,5 @@
 -- The command, as `clap` has it, and what a reading of it answers.
-use Rattle.std.specs.Prelude.{◌≡◌, ◌≢◌, ◌≤◌, ℕ, List, [], ◌∷◌, map, codes, Option, Some, None, Result, Err, IfOk, true, pos, if◌then◌else◌}
+use Rattle.std.specs.Prelude.{◌≡◌, ◌≢◌, ◌≤◌, ℕ, List, [], ◌∷◌, map, codes, Option, Some, None, Result, Err, IfOk, IfErr, true, pos, if◌then◌else◌}
 use Rattle.std.specs.Option.{option_map_or}
 use Rattle.std.specs.Str.{bytes_eq}
 use Rattle.std.specs.Str.Parse.{digits_value, without_leading_plus}
@@ -8,10 +8,13 @@ use Rattle.clap.specs.Walk.{Row, Rule, Text, first_of, one_of}
 use Rattle.clap.specs.Faults.{fault_of}
 use Rattle.clap.specs.ValueTests.{is_unsigned_in}
 use Rattle.clap.specs.Simple.{App, app_of, matches_of, new_app, new_rule, with_rule}
+use Rattle.clap.specs.Values.{kind_of}
 use Rattle.clap.specs.declared.builder.command.Command.{Command}
 use Rattle.clap.specs.declared.builder.action.ArgAction.TheVariants.{Set}
 use Rattle.clap.specs.declared.builder.value_parser.ValueParser.{ValueParser}
 use Rattle.clap.specs.declared.builder.value_parser.ValueParser.TheVariants as vp
+use Rattle.clap.specs.declared.error.Error.{Error}
+use Rattle.clap.specs.declared.error.kind.ErrorKind.TheVariants as kind
 use Rattle.cli_words.specs.declared.mode.Mode.{Mode}
 use Rattle.cli_words.specs.declared.mode.Mode.TheVariants.{Play, Big}
 use Rattle.cli_words.specs.declared.mode.WordFault.{WordFault}
@@ -47,7 +50,8 @@ without_help a = record a { top = record a.top { disable_help_flag = true; disab
 -- one required MODE and the four options, and neither help nor version
 abbrev pub command_of : Bor (List (Bor Text)) → App
 command_of names =
-    with_rule (with_rule (with_rule (with_rule (with_rule (without_help (new_app (codes "pastry"))) (mode_rule names)) nodes_rule) seed_rule) room_rule) size_rule
+    with_rule (with_rule (with_rule (with_rule (with_rule (without_help (new_app (codes "pastry"))) (mode_rule names)) nodes_rule) seed_rule) room_rule)
+    size_rule
 
 abbrev pub IsCommand : Command → Type 0
 IsCommand c = (names : Bor (List (Bor Text))) × AreModes names × (app_of c ≡ command_of names)
@@ -79,3 +83,8 @@ HasNodesInRange (Big nodes seed) = (2 ≤ nodes) × (nodes ≤ 256)
 pub record Reads (names : Bor (List (Bor Text))) (words : List Text) (result : Result Mode WordFault) : Type 0 where
   pub ok : IfOk result (λ m. (fault_of (command_of names) words ≡ []) × (m ≡ mode_of (matches_of (command_of names) words)))
   pub usage : result ≡ Err Usage → fault_of (command_of names) words ≢ []
+
+-- What a check of words answers: an error of another cause than memory exactly where the command's reading refuses them.
+pub record Judges (names : Bor (List (Bor Text))) (words : List Text) (result : Result (Unit {0}) Error) : Type 0 where
+  pub ok : IfOk result (λ _. fault_of (command_of names) words ≡ [])
+  pub err : IfErr result (λ e. kind_of e ≢ kind.OutOfMemory → fault_of (command_of names) words ≢ [])

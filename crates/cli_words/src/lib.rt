@@ -6,7 +6,7 @@ mod mode;
 mod read;
 
 pub use mode::{Mode, WordFault};
-pub use read::read_words;
+pub use read::{check_words, read_words};
 
 #[cfg(test)]
 mod tests;

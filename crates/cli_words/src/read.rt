@@ -1,16 +1,16 @@
 //! Reading the words of the command line.
 
-ghost use Rattle.std.specs.Prelude.{◌≡◌, ◌≢◌, ◌⊎◌, Ok, Err, IfOk, List, codes, option_map, map};
+ghost use Rattle.std.specs.Prelude.{◌≡◌, ◌≢◌, ◌⊎◌, Ok, Err, IfOk, IsErrAnd, List, codes, option_map, map};
 ghost use Rattle.std.specs.Rc.{rc_str_bytes};
 ghost use Rattle.clap.specs.Words.{rows_of, found_of, first_of, kind_of};
-ghost use Rattle.cli_words.specs.Command.{Reads, AreModes, HasNodesInRange, mode_of, mode_named, number_of};
+ghost use Rattle.cli_words.specs.Command.{Reads, Judges, AreModes, HasNodesInRange, mode_of, mode_named, number_of};
 ghost use Rattle.cli_words.specs.Plain.{Piece, ArePlain, mode_by};
 
 use crate::command::command;
 use crate::mode::{Mode, WordFault};
 use clap::error::ErrorKind;
 use clap::{ArgMatches, Error};
-use std::alloc::Global;
+use std::alloc::{AllocError, Global};
 use std::rc::RcStr;
 
 fn nodes_in(matches: &ArgMatches<'_>) -> u32
@@ -85,5 +85,20 @@ fn read(alloc: Global, words: &[RcStr]) -> Result<Mode, WordFault>
     match command.try_get_matches_from(words) {
         Ok(matches) => Ok(mode_in(&matches)),
         Err(error) => Err(fault_in(&error)),
+    }
+}
+
+/// Whether the command takes these words. An error has the command's text: which word it refuses, and what is wanted there.
+/// An error of memory may come in the place of any answer.
+pub fn check_words(alloc: Global, words: &[RcStr]) -> Result<(), Error>
+    ensures { IsErrAnd result (λ e. kind_of e ≡ ErrorKind.OutOfMemory) ⊎ ((names : _) × AreModes names × Judges names (map rc_str_bytes words.now) result) }
+{
+    let command = match command(alloc) {
+        Ok(command) => command,
+        Err(_) => return Err(Error::from(AllocError)),
+    };
+    match command.try_get_matches_from(words) {
+        Ok(_matches) => Ok(()),
+        Err(error) => Err(error),
     }
 }

@@ -1,6 +1,6 @@
 //! Words and what they ask for, by the usage `pastry MODE [--nodes N] [--seed N] [--room N] [--size Z]`.
 
-use crate::{Mode, WordFault, read_words};
+use crate::{Mode, WordFault, check_words, read_words};
 use std::rc::RcStr;
 use std::test::Fail;
 
@@ -57,5 +57,33 @@ fn refuses_other_words(rt: HostRuntime) -> Result<(), Fail> {
     for words in refused {
         assert_eq!(rt; read(&rt, words)?, Err(WordFault::Usage));
     }
+    Ok(())
+}
+
+/// What the command says of words that it refuses, None where it takes them.
+fn refusal(rt: &HostRuntime, words: &[&str]) -> Result<Option<String>, Fail> {
+    let mut given = Vec::new(rt.alloc());
+    for word in words {
+        given.push(RcStr::from_str(rt.alloc(), word)?)?;
+    }
+    match check_words(rt.alloc(), &given) {
+        Ok(()) => Ok(None),
+        Err(error) => Ok(Some(format!(in rt.alloc(); "{error}")?)),
+    }
+}
+
+#[test]
+fn says_why_words_are_refused(rt: HostRuntime) -> Result<(), Fail> {
+    let words = ["pastry", "big", "--nodes", "257"];
+    let text = refusal(&rt, &words)?.unwrap_or(String::new(rt.alloc()));
+    assert!(rt;
+        text.as_str()
+            .contains("'257' for '--nodes <nodes>': 257 is not in 2..=256"),
+        "{text}"
+    );
+    let words = ["pastry", "groups"];
+    let text = refusal(&rt, &words)?.unwrap_or(String::new(rt.alloc()));
+    assert!(rt; text.as_str().contains("'groups'"), "{text}");
+    assert!(rt; refusal(&rt, &["pastry", "play"])?.is_none());
     Ok(())
 }

@@ -15,8 +15,22 @@ InRing-with P i range hi z (inr e) = rw e hi
 -- what is no nearer than y on the way from h is no nearer from each i before y
 beyond : (right : Bool) (h i y z : ℕ) → h < 2 ^ 128 → i < 2 ^ 128 → y < 2 ^ 128 → z < 2 ^ 128 → way right h i < way right h y →
     way right h y ≤ way right h z → way right i y ≤ way right i z
-beyond true h i y z hh hi hy hz lt le = grind (arith, turn_cases h i hh hi, turn_cases h y hh hy, turn_cases h z hh hz, turn_cases i y hi hy, turn_cases i z hi hz)
-beyond false h i y z hh hi hy hz lt le = grind (arith, turn_cases i h hi hh, turn_cases y h hy hh, turn_cases z h hz hh, turn_cases y i hy hi, turn_cases z i hz hi)
+beyond true h i y z hh hi hy hz lt le = grind (
+  arith,
+  turn_cases h i hh hi,
+  turn_cases h y hh hy,
+  turn_cases h z hh hz,
+  turn_cases i y hi hy,
+  turn_cases i z hi hz,
+)
+beyond false h i y z hh hi hy hz lt le = grind (
+  arith,
+  turn_cases i h hi hh,
+  turn_cases y h hy hh,
+  turn_cases z h hz hh,
+  turn_cases y i hy hi,
+  turn_cases z i hz hi,
+)
 
 -- with i between h and its neighbour y, and z the neighbour of another member x, i is behind z
 behind : (right : Bool) (h y i x z : ℕ) → h < 2 ^ 128 → y < 2 ^ 128 → i < 2 ^ 128 → x < 2 ^ 128 → z < 2 ^ 128 → x ≢ h →

@@ -22,7 +22,15 @@ pub arcs_true : (x l r key : ℕ) → x < 2 ^ 128 → l < 2 ^ 128 → r < 2 ^ 12
     (key ≡ x) ⊎ (((turn x key < turn x r) × (cw_of x key ≤ cw_of key r)) ⊎ ((turn key x < turn l x) × (cw_of key x < cw_of l key)))
 unfolding in_arcs
 arcs_true x l r key hx hl hr hk h =
-    grind (arith, nat_tests, is_between-turn x key r hx hk hr, is_between-turn l key x hl hk hx, turn_cases l key hl hk, turn_cases l x hl hx, turn_cases key x hk hx)
+    grind (
+      arith,
+      nat_tests,
+      is_between-turn x key r hx hk hr,
+      is_between-turn l key x hl hk hx,
+      turn_cases l key hl hk,
+      turn_cases l x hl hx,
+      turn_cases key x hk hx,
+    )
 
 pub arcs_false : (x l r key : ℕ) → x < 2 ^ 128 → l < 2 ^ 128 → r < 2 ^ 128 → key < 2 ^ 128 → in_arcs x l r key ≡ false →
     (key ≢ x) × ((turn x key < turn x r → cw_of key r < cw_of x key) × (turn l key < turn l x → cw_of l key ≤ cw_of key x))
@@ -97,11 +105,27 @@ half_longer true x near far key hx hn hf hk le h =
     let lt = h.before in let half = h.near in
     record {
       before = omega arith;
-      near = omega (arith, cw_cases x key hx hk, cw_cases key near hk hn, cw_cases key far hk hf, turn_cases x key hx hk, turn_cases x near hx hn, turn_cases x far hx hf);
+      near = omega (
+        arith,
+        cw_cases x key hx hk,
+        cw_cases key near hk hn,
+        cw_cases key far hk hf,
+        turn_cases x key hx hk,
+        turn_cases x near hx hn,
+        turn_cases x far hx hf,
+      );
     }
 half_longer false x near far key hx hn hf hk le h =
     let lt = h.before in let half = h.near in
     record {
       before = omega arith;
-      near = omega (arith, cw_cases key x hk hx, cw_cases near key hn hk, cw_cases far key hf hk, turn_cases key x hk hx, turn_cases near x hn hx, turn_cases far x hf hx);
+      near = omega (
+        arith,
+        cw_cases key x hk hx,
+        cw_cases near key hn hk,
+        cw_cases far key hf hk,
+        turn_cases key x hk hx,
+        turn_cases near x hn hx,
+        turn_cases far x hf hx,
+      );
     }

@@ -5,7 +5,8 @@ use Rattle.std.proofs.lemmas.Bool.{cases_Bool, cases_eq, cond-true, cond-false}
 use Rattle.std.proofs.lemmas.Bool.Decides.{nat_tests}
 use Rattle.std.proofs.lemmas.Option.{same_Some}
 use Rattle.coverage.specs.declared.Reach.{Reach}
-use Rattle.coverage.specs.Coverage.{in_arcs, covers_of, gap_of, gap_for, or_else, in_gap_of, taken_of, without, is_alone, left_end, right_end, left_with, right_with}
+use Rattle.coverage.specs.Coverage.{in_arcs, covers_of, gap_of, gap_for, or_else, in_gap_of, taken_of, without, is_alone, left_end, right_end}
+use Rattle.coverage.specs.Coverage.{left_with, right_with}
 use Rattle.coverage.specs.Links.{stands}
 use Rattle.coverage.proofs.Ways.{way, before_from_stands}
 use Rattle.coverage.proofs.Arcs.{InHalf, arcs_true, arcs_itself, arcs_by_right, arcs_by_left, arcs_or_nearer, half_longer}
@@ -62,8 +63,10 @@ end_on-without false r j e = grind (arith, nat_tests, e)
 -- it rests on the node, its link and its joiner on that side
 pub end_on-same : (right : Bool) (r q : Reach) → r.me ≡ q.me → link_on right r ≡ link_on right q → joiner_on right r ≡ joiner_on right q →
     end_on right r ≡ end_on right q
-end_on-same true r q me link joiner = ap (λ m. right_with m r.right r.right_joiner) me ∙ ap (λ l. right_with q.me l r.right_joiner) link ∙ ap (right_with q.me q.right) joiner
-end_on-same false r q me link joiner = ap (λ m. left_with m r.left r.left_joiner) me ∙ ap (λ l. left_with q.me l r.left_joiner) link ∙ ap (left_with q.me q.left) joiner
+end_on-same true r q me link joiner = ap (λ m. right_with m r.right r.right_joiner) me ∙ ap (λ l. right_with q.me l r.right_joiner) link
+    ∙ ap (right_with q.me q.right) joiner
+end_on-same false r q me link joiner = ap (λ m. left_with m r.left r.left_joiner) me ∙ ap (λ l. left_with q.me l r.left_joiner) link
+    ∙ ap (left_with q.me q.left) joiner
 
 taken_of-other : (o : Option ℕ) (j : ℕ) → (o ≡ Some j → ⊥) → taken_of o j ≡ o
 taken_of-other None j ne = refl
@@ -148,7 +151,8 @@ pub data WhereCovered (r : Reach) (key : ℕ) : Type 0 where
 
 pub where_covered : (r : Reach) (key : ℕ) → IsReach r → key < 2 ^ 128 → covers_of r key ≡ true → WhereCovered r key
 where_covered r key range hk h =
-    elim (arcs_true r.me (left_end r) (right_end r) key range.me (end_on-bound false r range) (end_on-bound true r range) hk (sym (covers-arcs r key range.me hk) ∙ h)) [
+    elim (arcs_true r.me (left_end r) (right_end r) key range.me (end_on-bound false r range) (end_on-bound true r range) hk
+    (sym (covers-arcs r key range.me hk) ∙ h)) [
       | inl e ↦ itself e
       | inr (inl p) ↦ half true (record { before = p.0; near = p.1 })
       | inr (inr p) ↦ half false (record { before = p.0; near = p.1 })
@@ -192,8 +196,10 @@ gap_of-some r key j e =
 
 -- where it answers none the key is in the gap of no joiner
 pub gap_of-none : (right : Bool) (r : Reach) (key j : ℕ) → gap_of r key ≡ None → joiner_on right r ≡ Some j → in_gap_of r j key ≡ false
-gap_of-none true r key j e f = let none = or_else-none (gap_for r key r.right_joiner) (gap_for r key r.left_joiner) e in gap_for-none r key j (ap (gap_for r key) (sym f) ∙ none.0)
-gap_of-none false r key j e f = let none = or_else-none (gap_for r key r.right_joiner) (gap_for r key r.left_joiner) e in gap_for-none r key j (ap (gap_for r key) (sym f) ∙ none.1)
+gap_of-none true r key j e f = let none = or_else-none (gap_for r key r.right_joiner) (gap_for r key r.left_joiner) e in
+    gap_for-none r key j (ap (gap_for r key) (sym f) ∙ none.0)
+gap_of-none false r key j e f = let none = or_else-none (gap_for r key r.right_joiner) (gap_for r key r.left_joiner) e in
+    gap_for-none r key j (ap (gap_for r key) (sym f) ∙ none.1)
 
 -- a gap is what its joiner takes away
 pub in_gap-parts : (r : Reach) (j key : ℕ) → in_gap_of r j key ≡ true → (covers_of (without r j) key ≡ true) × (covers_of r key ≡ false)
@@ -212,7 +218,8 @@ half_without right r j key range hk h =
     elim (cases_joiner (joiner_on right r) j) [
       | inl e ↦
           let at_link = end_on-without right r j e in
-          let longer = half_longer right r.me (end_on right r) (link_on right r) key range.me (end_on-bound right r range) (range.link right) hk (end_on-le right r range) h in
+          let longer = half_longer right r.me (end_on right r) (link_on right r) key range.me (end_on-bound right r range) (range.link right) hk
+          (end_on-le right r range) h in
           covers_by_half right (without r j) key range.me (rw at_link (range.link right)) hk (half_to right (without r j) (link_on right r) key at_link longer)
       | inr ne ↦
           let same = end_on-other right r j ne in
@@ -227,4 +234,10 @@ covers-without r j key range hk h = by (where_covered r key range hk h) where
 
 -- so a gate uncovers exactly the gap of its joiner
 pub covers-but_gap : (r : Reach) (j key : ℕ) → IsReach r → key < 2 ^ 128 → covers_of r key ≡ covers_of (without r j) key && not (in_gap_of r j key)
-covers-but_gap r j key range hk = grind (arith, nat_tests, cases_Bool (covers_of r key), cases_Bool (covers_of (without r j) key), covers-without r j key range hk)
+covers-but_gap r j key range hk = grind (
+  arith,
+  nat_tests,
+  cases_Bool (covers_of r key),
+  cases_Bool (covers_of (without r j) key),
+  covers-without r j key range hk,
+)

@@ -14,7 +14,8 @@ ends_at_gate : (right : Bool) (P : ℕ → Type 0) (attempt_of : ℕ → ℕ) (x
     InRing P → P x →
     r.me ≡ x → joiner_on right r ≡ Some gate.joiner → HasGate right P attempt_of x (link_on right r) gate → EndsRight right P x r
 ends_at_gate right P attempt_of x r gate member range px me e h =
-    let before_link : stands right r.me gate.joiner (link_on right r) ≡ true = subst (λ m. stands right m gate.joiner (link_on right r) ≡ true) (sym me) h.between in
+    let before_link : stands right r.me gate.joiner (link_on right r) ≡ true =
+    subst (λ m. stands right m gate.joiner (link_on right r) ≡ true) (sym me) h.between in
     let at_joiner = end_on-joiner right r gate.joiner e before_link in
     elim member [
       | inl p ↦ inl (rw at_joiner (h.after p).1)
@@ -28,7 +29,8 @@ ends_at_gate right P attempt_of x r gate member range px me e h =
               bound = h.bound;
               at_end = at_joiner;
               next = next;
-              before = before_from_stands right x gate.joiner (link_on right r) (range x px) h.bound (range (link_on right r) (next_member right P x (link_on right r) next)) h.between;
+              before = before_from_stands right x gate.joiner (link_on right r) (range x px) h.bound
+                  (range (link_on right r) (next_member right P x (link_on right r) next)) h.between;
             },
           )
     ]
@@ -85,7 +87,8 @@ side_free right P attempt_of x y n = record { free = λ e. n; gated = λ gate e.
 -- a gate is given on a free side
 pub side_granted : (right : Bool) (P : ℕ → Type 0) (attempt_of : ℕ → ℕ) (x i a : ℕ) (side : Side) → InRing P → P x →
     HasSide right P attempt_of x side → side.gate ≡ None →
-    i < 2 ^ 128 → stands right x i side.link ≡ true → a ≤ attempt_of i → HasSide right P attempt_of x (record { link = side.link; gate = Some (record { joiner = i; attempt = a }) })
+    i < 2 ^ 128 → stands right x i side.link ≡ true → a ≤ attempt_of i →
+    HasSide right P attempt_of x (record { link = side.link; gate = Some (record { joiner = i; attempt = a }) })
 side_granted right P attempt_of x i a side range px h e hi b le = record {
   free = λ f. cc;
   gated = λ gate f.

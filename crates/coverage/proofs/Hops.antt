@@ -69,7 +69,12 @@ to_any_nearer me known key h =
             | inl d ↦ leaf_is_known me known y d
             | inr d ↦ (Contains-from_filter (is_entry me known) known y d).0
           ] in
-          record { node = y; is = ap (to_better me known key) e; is_known = in_known; nearer = (and_parts (nat_le (shared_of me key) (shared_of y key)) (is_nearer y me key) better.1).1 }
+          record {
+            node = y;
+            is = ap (to_better me known key) e;
+            is_known = in_known;
+            nearer = (and_parts (nat_le (shared_of me key) (shared_of y key)) (is_nearer y me key) better.1).1;
+          }
     ]
 
 to_entry_nearer : (me : ℕ) (known : List ℕ) (key : ℕ) (o : Option ℕ) → ((y : ℕ) → o ≡ Some y → Contains known y) → HasNearerLeaf me known key →

@@ -1,5 +1,5 @@
 -- Leaves and entries of a list: each is in the list, and the first leaf of a side is the one to which the way is least.
-use Rattle.std.proofs.Common.{◌≡◌, ℕ, ◌<◌, true, not, ◌⊎◌, ◌==◌, List, [], ◌∷◌, take, Some, refl, sym, ◌∙◌, subst, ap, ltb, arith, inl, inr}
+use Rattle.std.proofs.Common.{◌≡◌, ℕ, ◌-◌, ◌<◌, true, not, ◌⊎◌, ◌==◌, List, [], ◌∷◌, take, Some, refl, sym, ◌∙◌, subst, ap, ltb, arith, inl, inr}
 use Rattle.std.specs.Prelude.{slice_get}
 use Rattle.std.specs.List.{Contains, position_or_len}
 use Rattle.std.proofs.lemmas.Bool.{cases_Bool, cond-true, cond-false, cond_both, eqb-true}
@@ -8,6 +8,7 @@ use Rattle.std.proofs.lemmas.List.Elements.{Contains-append_left, Contains-appen
 use Rattle.std.proofs.lemmas.List.Folds.{Any-from_list_any, find_at}
 use Rattle.std.proofs.lemmas.Option.{slice_get_within, get_or_from_slice_get}
 use Rattle.std.proofs.lemmas.Bool.Decides.{nat_tests}
+use Rattle.ring_math.specs.declared.limits.TheConstants.{LEAVES_PER_SIDE}
 use Rattle.ring_math.specs.Ring.{cw_of}
 use Rattle.ring_math.specs.Members.{with}
 use Rattle.ring_math.specs.Sides.{placed, placed_all, nearest_first, first_or, right_side, left_side, leaves, also_of, is_in, belongs, entry_of}
@@ -75,7 +76,12 @@ placed_all_least far P ys (x ∷ xs) h =
 pub nearest_first_least : (far : ℕ → ℕ) (x : ℕ) (xs : List ℕ) → StartsWithLeast far (Contains (x ∷ xs)) (nearest_first far (x ∷ xs))
 nearest_first_least far x xs =
     starts_same far (or_in (λ z. z ≡ x) xs) (Contains (x ∷ xs)) (nearest_first far (x ∷ xs)) there back
-    (placed_all_least far (λ z. z ≡ x) (x ∷ []) xs (record { head = x; rest = []; is = refl; least = record { member = refl; least = λ z e. rw e (omega arith) } })) where
+    (placed_all_least far (λ z. z ≡ x) (x ∷ []) xs (record {
+      head = x;
+      rest = [];
+      is = refl;
+      least = record { member = refl; least = λ z e. rw e (omega arith) };
+    })) where
       there : (z : ℕ) → (z ≡ x) ⊎ Contains xs z → Contains (x ∷ xs) z
       there z (inl e) = rw e (Contains-here x xs)
       there z (inr c) = Contains-there x xs z c
@@ -85,11 +91,12 @@ nearest_first_least far x xs =
 
 -- the first leaf of a side, of a list that holds anybody
 first_is_least : (far : ℕ → ℕ) (otherwise y : ℕ) (known : List ℕ) → Contains known y →
-    IsLeast far (Contains known) (first_or otherwise (take 8 (nearest_first far known)))
+    IsLeast far (Contains known) (first_or otherwise (take LEAVES_PER_SIDE (nearest_first far known)))
 first_is_least far otherwise y [] c = absurd (Contains-none y c)
 first_is_least far otherwise y (x ∷ xs) c =
     let h = nearest_first_least far x xs in
-    let first : first_or otherwise (take 8 (nearest_first far (x ∷ xs))) ≡ h.head = ap (λ zs. first_or otherwise (take 8 zs)) h.is in
+    let first : first_or otherwise (take LEAVES_PER_SIDE (nearest_first far (x ∷ xs))) ≡ h.head =
+    ap (λ zs. first_or otherwise (take LEAVES_PER_SIDE zs)) h.is in
     subst (IsLeast far (Contains (x ∷ xs))) (sym first) h.least
 
 pub first_right : (me y : ℕ) (known : List ℕ) → Contains known y → IsLeast (λ z. cw_of me z) (Contains known) (first_or me (right_side me known))
@@ -130,9 +137,9 @@ Contains-placed_all far ys (x ∷ xs) z c =
       | inr d ↦ inr (Contains-there x xs z d)
     ]
 
-Contains-side : (far : ℕ → ℕ) (known : List ℕ) (z : ℕ) → Contains (take 8 (nearest_first far known)) z → Contains known z
+Contains-side : (far : ℕ → ℕ) (known : List ℕ) (z : ℕ) → Contains (take LEAVES_PER_SIDE (nearest_first far known)) z → Contains known z
 Contains-side far known z c =
-    elim (Contains-placed_all far [] known z (Contains-take 8 (nearest_first far known) z c)) [ inl d ↦ absurd (Contains-none z d) | inr d ↦ d ]
+    elim (Contains-placed_all far [] known z (Contains-take LEAVES_PER_SIDE (nearest_first far known) z c)) [ inl d ↦ absurd (Contains-none z d) | inr d ↦ d ]
 
 pub leaf_is_known : (me : ℕ) (known : List ℕ) (z : ℕ) → Contains (leaves me known) z → Contains known z
 leaf_is_known me known z c =
@@ -154,11 +161,11 @@ first_is_in otherwise [] x c = absurd (Contains-none x c)
 first_is_in otherwise (y ∷ ys) x c = Contains-here y ys
 
 -- a side of a list that holds anybody holds somebody
-side_holds : (far : ℕ → ℕ) (known : List ℕ) (y : ℕ) → Contains known y → (z : ℕ) × Contains (take 8 (nearest_first far known)) z
+side_holds : (far : ℕ → ℕ) (known : List ℕ) (y : ℕ) → Contains known y → (z : ℕ) × Contains (take LEAVES_PER_SIDE (nearest_first far known)) z
 side_holds far [] y c = absurd (Contains-none y c)
 side_holds far (x ∷ xs) y c =
     let h = nearest_first_least far x xs in
-    (h.head, subst (λ zs. Contains (take 8 zs) h.head) (sym h.is) (Contains-here h.head (take 7 h.rest)))
+    (h.head, subst (λ zs. Contains (take LEAVES_PER_SIDE zs) h.head) (sym h.is) (Contains-here h.head (take (LEAVES_PER_SIDE - 1) h.rest)))
 
 is_in-Contains : (xs : List ℕ) (y : ℕ) → is_in xs y ≡ true → Contains xs y
 is_in-Contains xs y h =

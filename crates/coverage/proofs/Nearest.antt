@@ -1,5 +1,7 @@
--- The nearest of a list, by place and by value: the first place that is as near to the key as each holds what `closest_in` gives, and that is the closest member.
-use Rattle.std.proofs.Common.{◌≡◌, ℕ, ◌+◌, ◌<◌, ◌≤◌, Bool, true, false, List, [], ◌∷◌, length, drop, get_or, slice_index, Some, refl, sym, ◌∙◌, ap, subst, arith, inl, inr}
+-- The nearest of a list, by place and by value: the first place that is as near to the key as each holds what `closest_in` gives, and that is the
+-- closest member.
+use Rattle.std.proofs.Common.{◌≡◌, ℕ, ◌+◌, ◌<◌, ◌≤◌, Bool, true, false, List, [], ◌∷◌, length, drop, get_or, slice_index, Some, refl, sym, ◌∙◌, ap}
+use Rattle.std.proofs.Common.{subst, arith, inl, inr}
 use Rattle.std.specs.Prelude.{if◌then◌else◌}
 use Rattle.std.specs.List.{Contains}
 use Rattle.std.proofs.lemmas.Bool.{cases_Bool, cases_lt, cases_order}

@@ -1,7 +1,10 @@
 -- Where a key goes on from a node: to somebody it knows, who is nearer to the key.
-use Rattle.std.proofs.Common.{◌≡◌, ℕ, Bool, true, false, not, nat_lt, nat_le, ◌^◌, ◌<◌, ◌⊎◌, List, [], ◌∷◌, ◌++◌, filter, take, find, Option, Some, None, All, Contains, refl, sym, subst, ap, ◌∙◌, inl, inr}
+use Rattle.std.proofs.Common.{◌≡◌, ℕ, ◌-◌, Bool, true, false, not, nat_lt, nat_le, ◌^◌, ◌<◌, ◌⊎◌, List, [], ◌∷◌, ◌++◌, filter, take, find, Option}
+use Rattle.std.proofs.Common.{Some, None, All, Contains, refl, sym, subst, ap, ◌∙◌, inl, inr}
 use Rattle.std.proofs.lemmas.Bool.{cases_Bool, cond_both, cond-true, cond-false, cases_eq, and_parts, not_from_false, true_from_ne_false}
-use Rattle.std.proofs.lemmas.List.Elements.{All-nil, All-cons, All-head, All-tail, All-append, All-take, All-filter, All-contains, All-contains_itself, Contains-append_left, Contains-append_right, Contains-append_cases}
+use Rattle.std.proofs.lemmas.List.Elements.{All-nil, All-cons, All-head, All-tail, All-append, All-take, All-filter, All-contains}
+use Rattle.std.proofs.lemmas.List.Elements.{All-contains_itself, Contains-append_left, Contains-append_right, Contains-append_cases}
+use Rattle.ring_math.specs.declared.limits.TheConstants.{LEAVES_PER_SIDE}
 use Rattle.ring_math.specs.Ring.{cw_of, is_nearer, digit_of, shared_of}
 use Rattle.ring_math.specs.Members.{InRing, IsClosest}
 use Rattle.ring_math.specs.Sides.{placed, placed_all, nearest_first, right_side, left_side, is_in, leaves, first_or, belongs, entry_of, entries_of, is_entry}
@@ -30,8 +33,8 @@ module _ (P : ℕ → Type 0) where
   all_placed_all far ys [] t h = t
   all_placed_all far ys (x ∷ xs) t h = all_placed_all far (placed far x ys) xs (all_placed far x ys (All-head P x xs h) t) (All-tail P x xs h)
 
-  all_side : (far : ℕ → ℕ) (known : List ℕ) → All P known → All P (take 8 (nearest_first far known))
-  all_side far known h = All-take P 8 (nearest_first far known) (all_placed_all far [] known (All-nil P) h)
+  all_side : (far : ℕ → ℕ) (known : List ℕ) → All P known → All P (take LEAVES_PER_SIDE (nearest_first far known))
+  all_side far known h = All-take P LEAVES_PER_SIDE (nearest_first far known) (all_placed_all far [] known (All-nil P) h)
 
   pub All-leaves : (me : ℕ) (known : List ℕ) → All P known → All P (leaves me known)
   All-leaves me known h =
@@ -45,17 +48,20 @@ found-known : (test : ℕ → Bool) (xs : List ℕ) (y : ℕ) → find test xs �
 found-known test [] y e = cc
 found-known test (x ∷ xs) y e =
     elim (cases_Bool (test x)) [
-      | inl t ↦ let some : find test (x ∷ xs) ≡ Some x = cond-true (test x) (Some x) (find test xs) t in let same : x ≡ y = cc in subst (Contains (x ∷ xs)) same (Contains-here x xs)
+      | inl t ↦ let some : find test (x ∷ xs) ≡ Some x = cond-true (test x) (Some x) (find test xs) t in let same : x ≡ y = cc in
+          subst (Contains (x ∷ xs)) same (Contains-here x xs)
       | inr f ↦ let rest : find test xs ≡ Some y = sym (cond-false (test x) (Some x) (find test xs) f) ∙ e in Contains-there x xs y (found-known test xs y rest)
     ]
 
 -- ---- the first of each side is a leaf
 
-first-leaf : (far : ℕ → ℕ) (otherwise : ℕ) (known : List ℕ) (y : ℕ) → Contains known y → Contains (take 8 (nearest_first far known)) (first_or otherwise (take 8 (nearest_first far known)))
+first-leaf : (far : ℕ → ℕ) (otherwise : ℕ) (known : List ℕ) (y : ℕ) → Contains known y →
+    Contains (take LEAVES_PER_SIDE (nearest_first far known)) (first_or otherwise (take LEAVES_PER_SIDE (nearest_first far known)))
 first-leaf far otherwise [] y c = absurd (Contains-none y c)
 first-leaf far otherwise (x ∷ xs) y c =
     let h = nearest_first_least far x xs in
-    subst (λ zs. Contains (take 8 zs) (first_or otherwise (take 8 zs))) (sym h.is) (Contains-here h.head (take 7 h.rest))
+    subst (λ zs. Contains (take LEAVES_PER_SIDE zs) (first_or otherwise (take LEAVES_PER_SIDE zs))) (sym h.is)
+    (Contains-here h.head (take (LEAVES_PER_SIDE - 1) h.rest))
 
 right-leaf : (me : ℕ) (known : List ℕ) (z : ℕ) → Contains (right_side me known) z → Contains (leaves me known) z
 right-leaf me known z c = Contains-append_left (right_side me known) _ z c
@@ -64,7 +70,8 @@ left-leaf : (me : ℕ) (known : List ℕ) (z : ℕ) → Contains (left_side me k
 left-leaf me known z c =
     elim (cases_Bool (is_in (right_side me known) z)) [
       | inl e ↦ right-leaf me known z (Contains-is_in (right_side me known) z e)
-      | inr e ↦ Contains-append_right (right_side me known) _ z (Contains-filter (λ y. not (is_in (right_side me known) y)) (left_side me known) z c (not_from_false (is_in (right_side me known) z) e))
+      | inr e ↦ Contains-append_right (right_side me known) _ z
+          (Contains-filter (λ y. not (is_in (right_side me known) y)) (left_side me known) z c (not_from_false (is_in (right_side me known) z) e))
     ]
 
 -- a leaf that is nearer to the key
@@ -84,12 +91,22 @@ pub record CanGoOn (r : Reach) (known : List ℕ) (key : ℕ) : Type 0 where
   pub left_known : (r.left ≡ r.me) ⊎ Contains known r.left
   pub right_known : (r.right ≡ r.me) ⊎ Contains known r.right
 
-from_link : (r : Reach) (known : List ℕ) (key y : ℕ) → CanGoOn r known key → is_nearer y r.me key ≡ true → (y ≡ r.me) ⊎ Contains known y → NearerLeaf r.me known key
-from_link r known key y g n (inl e) = let not_nearer = is_nearer-same r.me key in let nearer : is_nearer r.me r.me key ≡ true = subst (λ z. is_nearer z r.me key ≡ true) e n in cc
+from_link : (r : Reach) (known : List ℕ) (key y : ℕ) → CanGoOn r known key → is_nearer y r.me key ≡ true → (y ≡ r.me) ⊎ Contains known y →
+    NearerLeaf r.me known key
+from_link r known key y g n (inl e) = let not_nearer = is_nearer-same r.me key in let nearer : is_nearer r.me r.me key ≡ true =
+    subst (λ z. is_nearer z r.me key ≡ true) e n in cc
 from_link r known key y g n (inr c) =
     elim (leaf_is_nearer r.me known y key g.in_ring g.me g.bound g.unknown c n) [
-      | inl h ↦ record { leaf = first_or r.me (left_side r.me known); is_leaf = left-leaf r.me known _ (first-leaf (λ z. cw_of z r.me) r.me known y c); nearer = h }
-      | inr h ↦ record { leaf = first_or r.me (right_side r.me known); is_leaf = right-leaf r.me known _ (first-leaf (λ z. cw_of r.me z) r.me known y c); nearer = h }
+      | inl h ↦ record {
+        leaf = first_or r.me (left_side r.me known);
+        is_leaf = left-leaf r.me known _ (first-leaf (λ z. cw_of z r.me) r.me known y c);
+        nearer = h;
+      }
+      | inr h ↦ record {
+        leaf = first_or r.me (right_side r.me known);
+        is_leaf = right-leaf r.me known _ (first-leaf (λ z. cw_of r.me z) r.me known y c);
+        nearer = h;
+      }
     ]
 
 nearer_leaf : (r : Reach) (known : List ℕ) (key : ℕ) → CanGoOn r known key → covers_of r key ≡ false → gap_of r key ≡ None → NearerLeaf r.me known key
@@ -167,7 +184,8 @@ onward_goes me known key y h e =
       | inr n ↦ prefix_goes me known key y h (sym (cond-false (in_leaf_range me known key) (to_leaf me known key) (by_prefix me known key) n) ∙ e)
     ]
 
-unless_goes : (r : Reach) (known : List ℕ) (key y : ℕ) (o : Option ℕ) → CanGoOn r known key → covers_of r key ≡ false → gap_of r key ≡ o → unless_gap r known key o ≡ To y → GoesOn r.me known key y
+unless_goes : (r : Reach) (known : List ℕ) (key y : ℕ) (o : Option ℕ) → CanGoOn r known key → covers_of r key ≡ false → gap_of r key ≡ o →
+    unless_gap r known key o ≡ To y → GoesOn r.me known key y
 unless_goes r known key y None g out none e = onward_goes r.me known key y (nearer_leaf r known key g out none) e
 unless_goes r known key y (Some j) g out gap e = cc
 
@@ -203,14 +221,16 @@ onward_to me known key h =
     cond_both (in_leaf_range me known key) (to_leaf me known key) (by_prefix me known key) (λ (z : Hop). (y : ℕ) × (z ≡ To y)) (λ _. leaf_to me known key h)
     (λ _. entry_to me known key (entry_of me known (shared_of me key) (digit_of key (shared_of me key))) h)
 
-unless_here : (r : Reach) (known : List ℕ) (key : ℕ) (o : Option ℕ) → CanGoOn r known key → covers_of r key ≡ false → gap_of r key ≡ o → unless_gap r known key o ≡ Here → ⊥
+unless_here : (r : Reach) (known : List ℕ) (key : ℕ) (o : Option ℕ) → CanGoOn r known key → covers_of r key ≡ false → gap_of r key ≡ o →
+    unless_gap r known key o ≡ Here → ⊥
 unless_here r known key None g out none e = let to = onward_to r.me known key (nearer_leaf r known key g out none) in let f = to.1 in cc
 unless_here r known key (Some j) g out gap e = cc
 
 -- where the next hop is Here the node covers the key
 pub next_hop-here : (r : Reach) (known : List ℕ) (key : ℕ) → CanGoOn r known key → next_hop_of r known key ≡ Here → covers_of r key ≡ true
 next_hop-here r known key g e =
-    true_from_ne_false (covers_of r key) (λ out. unless_here r known key (gap_of r key) g out refl (sym (cond-false (covers_of r key) Here (unless_gap r known key (gap_of r key)) out) ∙ e))
+    true_from_ne_false (covers_of r key) (λ out. unless_here r known key (gap_of r key) g out refl
+    (sym (cond-false (covers_of r key) Here (unless_gap r known key (gap_of r key)) out) ∙ e))
 
 same_gap : (i j : ℕ) → Gap i ≡ Gap j → i ≡ j
 same_gap i j e = cc
@@ -231,7 +251,8 @@ entry_gap me known key j (Some y) e =
 
 onward_gap : (me : ℕ) (known : List ℕ) (key j : ℕ) → onward me known key ≡ Gap j → ⊥
 onward_gap me known key j e =
-    cond_both (in_leaf_range me known key) (to_leaf me known key) (by_prefix me known key) (λ (z : Hop). z ≡ Gap j → ⊥) (λ _. leaf_gap (closest_in key (leaves me known)) j)
+    cond_both (in_leaf_range me known key) (to_leaf me known key) (by_prefix me known key) (λ (z : Hop). z ≡ Gap j → ⊥)
+    (λ _. leaf_gap (closest_in key (leaves me known)) j)
     (λ _. entry_gap me known key j (entry_of me known (shared_of me key) (digit_of key (shared_of me key)))) e
 
 unless_gap_is : (r : Reach) (known : List ℕ) (key j : ℕ) (o : Option ℕ) → gap_of r key ≡ o → unless_gap r known key o ≡ Gap j → gap_of r key ≡ Some j

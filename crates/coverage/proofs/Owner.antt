@@ -10,7 +10,8 @@ use Rattle.coverage.specs.Coverage.{in_arcs, covers_of, in_gap_of, without, left
 use Rattle.coverage.specs.Links.{IsNext, KeepsFor, stands}
 use Rattle.coverage.proofs.Ways.{way, next_least, next_member}
 use Rattle.coverage.proofs.Arcs.{InHalf, arcs_nearest, arcs_or_nearer, arcs_true}
-use Rattle.coverage.proofs.Ends.{link_on, joiner_on, end_on, cases_joiner, end_on-joiner, end_on-beside, end_on-without, end_on-other, joiner_on-other, covers-arcs, covers_itself, covers_by_half, in_gap_by, in_gap-parts}
+use Rattle.coverage.proofs.Ends.{link_on, joiner_on, end_on, cases_joiner, end_on-joiner, end_on-beside, end_on-without, end_on-other}
+use Rattle.coverage.proofs.Ends.{joiner_on-other, covers-arcs, covers_itself, covers_by_half, in_gap_by, in_gap-parts}
 
 -- the arc of x ends at j, who is no member and stands before the next member, which is the link
 pub record Waits (right : Bool) (P : ℕ → Type 0) (x : ℕ) (r : Reach) (j : ℕ) : Type 0 where
@@ -120,7 +121,12 @@ closest_arcs P x p s key range hk hp hs c =
     let least = closest_least P key x hk range c in
     let a : rank key x ≤ rank key p = least.least p (next_member false P x p hp) in
     let b : rank key x ≤ rank key s = least.least s (next_member true P x s hs) in
-    grind (arith, cases_Bool (in_arcs x p s key), arcs_or_nearer x p s key (range x c.member) (range p (next_member false P x p hp)) (range s (next_member true P x s hs)) hk)
+    grind (
+      arith,
+      cases_Bool (in_arcs x p s key),
+      arcs_or_nearer x p s key (range x c.member) (range p (next_member false P x p hp)) (range s
+          (next_member true P x s hs)) hk,
+    )
 
 pub closest_owns : (P : ℕ → Type 0) (x key : ℕ) (r : Reach) → InRing P → key < 2 ^ 128 → IsEnded P x r → IsClosest P key x → Owns P r key
 closest_owns P x key r range hk ends c =
@@ -182,4 +188,5 @@ ended-without P x j r absent ends = record { me = ends.me; side = λ right. side
 
 pub gap_closest : (P : ℕ → Type 0) (x j key : ℕ) (r : Reach) → InRing P → key < 2 ^ 128 → P x → (P j → ⊥) → IsEnded P x r → in_gap_of r j key ≡ true →
     IsClosest P key x
-gap_closest P x j key r range hk px absent ends h = covers_closest P x key (without r j) range hk px (ended-without P x j r absent ends) (in_gap-parts r j key h).0
+gap_closest P x j key r range hk px absent ends h = covers_closest P x key (without r j) range hk px (ended-without P x j r absent ends)
+    (in_gap-parts r j key h).0

@@ -46,7 +46,13 @@ link_is_nearer r key hx hl hr hk out none =
     elim (cases_Bool (in_arcs r.me r.left r.right key)) [
       | inl in' ↦ absurd (bare_arcs r key hx hl hr hk out none in')
       | inr out' ↦
-          grind (arith, nat_tests, arcs_or_nearer r.me r.left r.right key hx hl hr hk out', is_nearer-rank r.left r.me key hl hx hk, is_nearer-rank r.right r.me key hr hx hk)
+          grind (
+            arith,
+            nat_tests,
+            arcs_or_nearer r.me r.left r.right key hx hl hr hk out',
+            is_nearer-rank r.left r.me key hl hx hk,
+            is_nearer-rank r.right r.me key hr hx hk,
+          )
     ]
 
 -- ---- the first leaf of a side is nearer

@@ -16,8 +16,10 @@ use Rattle.coverage.proofs.Gates.{StaysSame, side_ends, side_free, side_stays}
 
 reach_ends : (right : Bool) (P : ℕ → Type 0) (attempt_of : ℕ → ℕ) (sides : ℕ → Bool → Side) (x : ℕ) → ((j : ℕ) → P j ⊎ (P j → ⊥)) →
     IsRing P attempt_of sides → P x → EndsRight right P x (reach_of x (sides x))
-reach_ends true P attempt_of sides x member ring px = side_ends true P attempt_of x (reach_of x (sides x)) (sides x true) member ring.in_ring px refl refl refl (ring.side true x px)
-reach_ends false P attempt_of sides x member ring px = side_ends false P attempt_of x (reach_of x (sides x)) (sides x false) member ring.in_ring px refl refl refl (ring.side false x px)
+reach_ends true P attempt_of sides x member ring px = side_ends true P attempt_of x (reach_of x (sides x))
+    (sides x true) member ring.in_ring px refl refl refl (ring.side true x px)
+reach_ends false P attempt_of sides x member ring px = side_ends false P attempt_of x (reach_of x (sides x))
+    (sides x false) member ring.in_ring px refl refl refl (ring.side false x px)
 
 pub ring-ended : (P : ℕ → Type 0) (attempt_of : ℕ → ℕ) (sides : ℕ → Bool → Side) (x : ℕ) → ((j : ℕ) → P j ⊎ (P j → ⊥)) → IsRing P attempt_of sides →
     P x → IsEnded P x (reach_of x (sides x))
@@ -27,7 +29,8 @@ pub is_member : (test : ℕ → Bool) (j : ℕ) → members test j ⊎ (members 
 is_member test j = elim (cases_Bool (test j)) [ inl a ↦ inl a | inr b ↦ inr (λ a. cc) ]
 
 pub ring_one : (ready : ℕ → Bool) (attempt_of : ℕ → ℕ) (sides : ℕ → Bool → Side) (x y key : ℕ) →
-    IsRing (members ready) attempt_of sides → key < 2 ^ 128 → members ready x → members ready y → covers_of (reach_of x (sides x)) key ≡ true → covers_of (reach_of y (sides y)) key ≡ true → x ≡ y
+    IsRing (members ready) attempt_of sides → key < 2 ^ 128 → members ready x → members ready y → covers_of (reach_of x (sides x)) key ≡ true →
+    covers_of (reach_of y (sides y)) key ≡ true → x ≡ y
 ring_one ready attempt_of sides x y key ring hk px py cx cy =
     one_covers (members ready) x y key (reach_of x (sides x)) (reach_of y (sides y)) ring.in_ring hk px py
     (ring-ended (members ready) attempt_of sides x (is_member ready) ring px) (ring-ended (members ready) attempt_of sides y (is_member ready) ring py) cx cy
@@ -46,13 +49,15 @@ pub ring_owned : (ready : ℕ → Bool) (attempt_of : ℕ → ℕ) (sides : ℕ 
     (covers_of (reach_of x (sides x)) key ≡ true) ⊎ ((j : ℕ) × KeepsFor (members ready) (reach_of x (sides x)) key j)
 ring_owned ready attempt_of sides x key ring hk c =
     owned (members ready) (reach_of x (sides x)) key
-    (closest_owns (members ready) x key (reach_of x (sides x)) ring.in_ring hk (ring-ended (members ready) attempt_of sides x (is_member ready) ring c.member) c)
+    (closest_owns (members ready) x key (reach_of x (sides x)) ring.in_ring hk
+    (ring-ended (members ready) attempt_of sides x (is_member ready) ring c.member) c)
 
 pub ring_kept : (ready : ℕ → Bool) (attempt_of : ℕ → ℕ) (sides : ℕ → Bool → Side) (x j key : ℕ) → IsRing (members ready) attempt_of sides →
     key < 2 ^ 128 →
     members ready x → KeepsFor (members ready) (reach_of x (sides x)) key j → IsClosest (members ready) key x
 ring_kept ready attempt_of sides x j key ring hk px h =
-    gap_closest (members ready) x j key (reach_of x (sides x)) ring.in_ring hk px h.absent (ring-ended (members ready) attempt_of sides x (is_member ready) ring px) h.gap
+    gap_closest (members ready) x j key (reach_of x (sides x)) ring.in_ring hk px h.absent
+    (ring-ended (members ready) attempt_of sides x (is_member ready) ring px) h.gap
 
 -- ---- the start, and a step at which nobody becomes a member
 
@@ -61,7 +66,8 @@ pub ring_founded : (P : ℕ → Type 0) (attempt_of : ℕ → ℕ) (sides : ℕ 
 ring_founded P attempt_of sides f hf pf only alone = record {
   in_ring = λ x p. rw (only x p) hf;
   side = λ right x p.
-      let at_f : HasSide right P attempt_of f (sides f right) = subst (HasSide right P attempt_of f) (sym (alone right)) (side_free right P attempt_of f f (next_alone right P f pf only)) in
+      let at_f : HasSide right P attempt_of f (sides f right) =
+      subst (HasSide right P attempt_of f) (sym (alone right)) (side_free right P attempt_of f f (next_alone right P f pf only)) in
       subst (λ w. HasSide right P attempt_of w (sides w right)) (sym (only x p)) at_f;
 }
 
@@ -134,7 +140,8 @@ gate_held right {P} {Q} {before} {after} {sides} {i} {a} {holder} x gate ring j 
     let b = between_holders right ring j in
     let next : IsNext right P x y = h.before (λ p. j.absent (subst P same p)) in
     let inside : stands right x i y ≡ true = subst (λ k. stands right x k y ≡ true) same h.between in
-    let at_holder : x ≡ holder right = one_holder right P x (holder right) y (holder (not right)) i ring.in_ring j.bound j.absent px (j.held right) next b.next inside b.between in
+    let at_holder : x ≡ holder right = one_holder right P x (holder right) y (holder (not right)) i ring.in_ring j.bound j.absent px
+    (j.held right) next b.next inside b.between in
     let held : (sides x right).gate ≡ Some mine = subst (λ w. (sides w right).gate ≡ Some mine) (sym at_holder) (j.gate right) in
     record { at = at_holder; is = same_Some gate mine (sym e ∙ held) }
 

@@ -51,7 +51,8 @@ pub confirmed_keeps : (right : Bool) (P : ℕ → Type 0) (attempt_of : ℕ → 
 confirmed_keeps right P attempt_of x i a side pi h =
     cond_both (is_of i a side.gate) (record { link = i; gate = None }) side (HasSide right P attempt_of x)
     (λ e. let f = found_of i a side.gate e in
-    subst (λ k. HasSide right P attempt_of x (record { link = k; gate = None })) f.joiner (side_confirmed right P attempt_of x side f.gate h f.is (subst P (sym f.joiner) pi)))
+    subst (λ k. HasSide right P attempt_of x (record { link = k; gate = None })) f.joiner
+    (side_confirmed right P attempt_of x side f.gate h f.is (subst P (sym f.joiner) pi)))
     (λ _. h)
 
 pub released_keeps : (right : Bool) (P : ℕ → Type 0) (attempt_of : ℕ → ℕ) (x i a : ℕ) (side : Side) → a < attempt_of i →
@@ -103,9 +104,10 @@ pub covers-confirmed : (P : ℕ → Type 0) (attempt_of : ℕ → ℕ) (sides : 
     ((right : Bool) → HasSide right P attempt_of x (sides right)) →
     covers_of (reach_of x sides) key ≡ covers_of (reach_of x (λ right. confirmed i a (sides right))) key
 unfolding EndsAs
-covers-confirmed P attempt_of sides x i a key hx hk h = covers-ends (reach_of x sides) (reach_of x (λ right. confirmed i a (sides right))) key hx hk refl ends where
-  ends : (right : Bool) → end_on right (reach_of x sides) ≡ end_on right (reach_of x (λ side. confirmed i a (sides side)))
-  ends true = confirmed_end true P attempt_of x i a (reach_of x sides) (sides true) (h true) (record { me = refl; link = refl; joiner = refl })
-      (reach_of x (λ side. confirmed i a (sides side))) (record { me = refl; link = refl; joiner = refl })
-  ends false = confirmed_end false P attempt_of x i a (reach_of x sides) (sides false) (h false) (record { me = refl; link = refl; joiner = refl })
-      (reach_of x (λ side. confirmed i a (sides side))) (record { me = refl; link = refl; joiner = refl })
+covers-confirmed P attempt_of sides x i a key hx hk h = covers-ends (reach_of x sides)
+    (reach_of x (λ right. confirmed i a (sides right))) key hx hk refl ends where
+      ends : (right : Bool) → end_on right (reach_of x sides) ≡ end_on right (reach_of x (λ side. confirmed i a (sides side)))
+      ends true = confirmed_end true P attempt_of x i a (reach_of x sides) (sides true) (h true) (record { me = refl; link = refl; joiner = refl })
+          (reach_of x (λ side. confirmed i a (sides side))) (record { me = refl; link = refl; joiner = refl })
+      ends false = confirmed_end false P attempt_of x i a (reach_of x sides) (sides false) (h false) (record { me = refl; link = refl; joiner = refl })
+          (reach_of x (λ side. confirmed i a (sides side))) (record { me = refl; link = refl; joiner = refl })

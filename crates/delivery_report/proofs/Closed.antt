@@ -1,5 +1,6 @@
 -- How commands are closed by one list of notes after another, and their lines one by one.
-use Rattle.std.proofs.Common.{◌≡◌, ℕ, suc, ◌+◌, ◌<◌, ◌==◌, Bool, true, false, if◌then◌else◌, Option, Some, None, List, [], ◌∷◌, ◌++◌, length, get_or, take, drop, refl, sym, ◌∙◌, ap, map, append-nil, add-zero, arith}
+use Rattle.std.proofs.Common.{◌≡◌, ℕ, suc, ◌+◌, ◌<◌, ◌==◌, Bool, true, false, if◌then◌else◌, Option, Some, None, List, [], ◌∷◌, ◌++◌, length, get_or, take}
+use Rattle.std.proofs.Common.{drop, refl, sym, ◌∙◌, ap, map, append-nil, add-zero, arith}
 use Rattle.std.specs.Borrow.{Bor}
 use Rattle.std.specs.Option.{option_or, option_copied}
 use Rattle.std.proofs.lemmas.List.{take-append-le, take_all, at_drop_more}
@@ -40,11 +41,13 @@ closing_of-more n notes i last within is =
 -- the notes of one entry more
 pub notes_in-take : (es : List Entry) (i : ℕ) (e : Entry) → i < length es → e ≡ get_or es i e → notes_in (take (i + 1) es) ≡ notes_in (take i es) ++ e.notes
 notes_in-take es i e within is =
-    ap notes_in (take-next es i e within is) ∙ flat_map-append (λ (x : Entry). x.notes) (take i es) (e ∷ []) ∙ ap (λ ns. notes_in (take i es) ++ ns) (append-nil e.notes)
+    ap notes_in (take-next es i e within is) ∙ flat_map-append (λ (x : Entry). x.notes) (take i es) (e ∷ [])
+    ∙ ap (λ ns. notes_in (take i es) ++ ns) (append-nil e.notes)
 
 -- slots that say of each command how it was closed
 pub closings-by_slots : (notes : List Note) (slots : List (Option (Bor Answer))) (n : ℕ) →
-    ((k : ℕ) → k < length slots → option_copied (get_or slots k None) ≡ closing_of (n + k) notes) → map option_copied slots ≡ closings_from notes n (length slots)
+    ((k : ℕ) → k < length slots → option_copied (get_or slots k None) ≡ closing_of (n + k) notes) →
+    map option_copied slots ≡ closings_from notes n (length slots)
 closings-by_slots notes [] n at = refl
 closings-by_slots notes (slot ∷ slots) n at =
     let here : option_copied slot ≡ closing_of n notes = at 0 (omega arith) ∙ ap (λ m. closing_of m notes) (add-zero n) in
@@ -52,7 +55,8 @@ closings-by_slots notes (slot ∷ slots) n at =
     ap (λ c. c ∷ map option_copied slots) here ∙ ap (λ cs. closing_of n notes ∷ cs) later
 
 -- the line of the next command
-pub lines_from-next : (nodes : List NodeLine) (slots : List (Option (Bor Answer))) (i : ℕ) (slot : Option (Bor Answer)) → i < length slots → slot ≡ get_or slots i slot →
+pub lines_from-next : (nodes : List NodeLine) (slots : List (Option (Bor Answer))) (i : ℕ) (slot : Option (Bor Answer)) → i < length slots →
+    slot ≡ get_or slots i slot →
     lines_from nodes (i + 1) (map option_copied (drop i slots)) ≡
     command_line nodes (i + 1) (option_copied slot) ++ lines_from nodes (i + 1 + 1) (map option_copied (drop (i + 1) slots))
 lines_from-next nodes slots i slot within is =

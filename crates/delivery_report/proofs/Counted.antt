@@ -38,7 +38,8 @@ module _ (f h : ℕ → Bool) (x : ℕ) (agree : (y : ℕ) → y ≢ x → f y �
   count_by-none [] e = refl
   count_by-none (y ∷ ys) e =
       let p = or_parts (y == x) (is_in ys x) e in
-      count_by-cons f y ys ∙ ap (λ b. cond b 1 0 + count_by f ys) (other y p.0) ∙ ap (λ n. cond (h y) 1 0 + n) (count_by-none ys p.1) ∙ sym (count_by-cons h y ys)
+      count_by-cons f y ys ∙ ap (λ b. cond b 1 0 + count_by f ys) (other y p.0) ∙ ap (λ n. cond (h y) 1 0 + n) (count_by-none ys p.1)
+      ∙ sym (count_by-cons h y ys)
 
   -- and where x stands once, their counts differ by what they say of x
   pub count_by-one : (xs : List ℕ) → all_differ xs ≡ true → Contains xs x → count_by f xs + cond (h x) 1 0 ≡ count_by h xs + cond (f x) 1 0
@@ -47,8 +48,10 @@ module _ (f h : ℕ → Bool) (x : ℕ) (agree : (y : ℕ) → y ≢ x → f y �
       let p = and_parts (not (is_in ys y)) (all_differ ys) d in
       rw (count_by-cons f y ys, count_by-cons h y ys) (elim (cases_Bool (y == x)) [
         | inl e ↦ (let same : y ≡ x = (Decides-eqb y x).0 e in
-            rw same (first_here (cond (f x) 1 0) (cond (h x) 1 0) (count_by f ys) (count_by h ys) (count_by-none ys (subst (λ z. is_in ys z ≡ false) same (not_in _ p.0)))))
-        | inr e ↦ rw (other y e) (first_other (cond (h y) 1 0) (cond (h x) 1 0) (count_by f ys) (count_by h ys) (cond (f x) 1 0) (count_by-one ys p.1 (later ys y c e)))
+            rw same (first_here (cond (f x) 1 0) (cond (h x) 1 0) (count_by f ys) (count_by h ys)
+            (count_by-none ys (subst (λ z. is_in ys z ≡ false) same (not_in _ p.0)))))
+        | inr e ↦ rw (other y e) (first_other (cond (h y) 1 0) (cond (h x) 1 0) (count_by f ys) (count_by h ys) (cond (f x) 1 0)
+            (count_by-one ys p.1 (later ys y c e)))
       ]) where
         later : (ys : List ℕ) (y : ℕ) → Contains (y ∷ ys) x → (y == x) ≡ false → Contains ys x
         later ys y c e = elim (Contains-cases y ys x c) [

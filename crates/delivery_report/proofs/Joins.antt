@@ -1,5 +1,7 @@
--- The ready nodes of a legal record: the founder, and one for each closing with Joined. A step that notes such a closing readies its node, and no other step does.
-use Rattle.std.proofs.Common.{◌≡◌, ◌≢◌, inl, inr, ℕ, ◌+◌, Bool, true, false, ◌==◌, cond, List, [], ◌∷◌, ◌++◌, length, take, refl, sym, subst, ap, ◌∙◌, append-nil, zero-add, arith}
+-- The ready nodes of a legal record: the founder, and one for each closing with Joined. A step that notes such a closing readies its node, and no other step
+-- does.
+use Rattle.std.proofs.Common.{◌≡◌, ◌≢◌, inl, inr, ℕ, ◌+◌, Bool, true, false, ◌==◌, cond, List, [], ◌∷◌, ◌++◌, length, take, refl, sym, subst, ap, ◌∙◌}
+use Rattle.std.proofs.Common.{append-nil, zero-add, arith}
 use Rattle.std.specs.List.{count_by}
 use Rattle.std.proofs.lemmas.Bool.{cases_Bool}
 use Rattle.std.proofs.lemmas.Bool.Decides.{Decides-eqb}
@@ -24,8 +26,8 @@ use Rattle.overlay_rules.proofs.Histories.{state_at-itself, state_at-other, past
 use Rattle.overlay_rules.proofs.Seat.{Seat, IsReply, IsServiceNote}
 use Rattle.overlay_rules.proofs.Seat as row
 use Rattle.overlay_rules.proofs.SeatStep.{step_seat}
-use Rattle.ring_laws.specs.Hops.{ready_count}
-use Rattle.ring_laws.proofs.Always.{Takes, Keeps, stepped, always}
+use Rattle.step_facts.specs.ReadyCount.{ready_count}
+use Rattle.step_facts.proofs.Always.{Takes, Keeps, stepped, always}
 use Rattle.delivery_report.specs.Report.{is_joining_note}
 use Rattle.delivery_report.proofs.Counted.{count_by-cons, count_by-one}
 
@@ -101,7 +103,8 @@ joins_keep g set = record { keeps = λ w e x i h t. record { ready = counted w e
       let notes : joinings (notes_in (w.past ++ e ∷ [])) ≡ joinings (notes_in w.past) + joinings o.notes =
       ap joinings (flat_map-append (λ (d : Entry). d.notes) w.past (e ∷ []) ∙ ap (λ ns. notes_in w.past ++ ns) (append-nil e.notes ∙ t.notes)) ∙
       sum_by-append (λ n. cond (is_joining_note n) 1 0) (notes_in w.past) o.notes in
-      summed _ _ (readiness (w.states x)) (readiness o.state) (joinings o.notes) (joinings (notes_in w.past)) (moved ∙ ap (λ n. ready_count g w + n) now) (seat_joins _ _ _ (step_seat (w.states x) i)) h.ready ∙
+      summed _ _ (readiness (w.states x)) (readiness o.state) (joinings o.notes) (joinings (notes_in w.past)) (moved ∙ ap (λ n. ready_count g w + n) now)
+      (seat_joins _ _ _ (step_seat (w.states x) i)) h.ready ∙
       ap (λ n. 1 + n) (sym notes)
 
 start_ready : (x : ℕ) (b : Bool) → is_ready (start x b).phase ≡ b

@@ -21,7 +21,8 @@ pub Grown-more : {text done before after : List ℕ} → Grown text done before 
 Grown-more {text} {done} grown more is = record { is = rw (is, grown.is) (append_assoc text done more) }
 
 -- a word, and then a number or a name
-pub Grown-pair : {text done before after : List ℕ} → Grown text done before → (word name : List ℕ) → after ≡ before ++ (word ++ name) → Grown text (done ++ word ++ name) after
+pub Grown-pair : {text done before after : List ℕ} → Grown text done before → (word name : List ℕ) → after ≡ before ++ (word ++ name) →
+    Grown text (done ++ word ++ name) after
 Grown-pair {text} {done} grown word name is =
     record { is = (Grown-more grown (word ++ name) is).is ∙ ap (λ xs. text ++ xs) (sym (append_assoc done word name)) }
 

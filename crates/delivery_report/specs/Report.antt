@@ -9,7 +9,7 @@ use Rattle.overlay_rules.specs.declared.entry.Entry.{Entry}
 use Rattle.overlay_rules.specs.Record.{Setting, sent_in, run, world_at_start}
 use Rattle.overlay_rules.specs.Played.{is_delivery_of}
 use Rattle.overlay_rules.specs.Table.{notes_in}
-use Rattle.ring_laws.specs.Hops.{ready_count}
+use Rattle.step_facts.specs.ReadyCount.{ready_count}
 use Rattle.scenario_reader.specs.declared.node.NodeLine.{NodeLine}
 use Rattle.delivery_report.specs.declared.counts.Summary.{Summary}
 use Rattle.delivery_report.specs.Answers.{closing_text}

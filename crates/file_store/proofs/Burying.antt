@@ -1,38 +1,32 @@
 -- What burying one file, or a list of files, does to the entries.
-use Rattle.std.proofs.Common.{◌≡◌, ◌<◌, ◌≤◌, ℕ, ◌+◌, Bool, true, false, not, ◌&&◌, ◌||◌, if◌then◌else◌, zero, suc, take, get_or, IsTrue, List, [], ◌∷◌, ◌++◌, length, refl, sym, ◌∙◌, arith, Option, Some, None, ap}
+use Rattle.std.proofs.Common.{◌≡◌, ◌<◌, ◌≤◌, ℕ, ◌+◌, Bool, true, false, not, ◌&&◌, ◌||◌, if◌then◌else◌, zero, suc, take, get_or, IsTrue, List, []}
+use Rattle.std.proofs.Common.{◌∷◌, ◌++◌, length, refl, sym, ◌∙◌, arith, Option, Some, None, ap}
 use Rattle.std.specs.List.{list_all, list_any}
 use Rattle.std.proofs.lemmas.Bool.{ltb-true}
 use Rattle.std.proofs.lemmas.Bool.Decides.{nat_tests}
 use Rattle.std.proofs.lemmas.List.{take_more}
+use Rattle.ring_math.specs.declared.limits.TheConstants.{MOST_ENTRIES}
+use Rattle.ring_math.specs.Names.{FileId}
 use Rattle.ring_math.specs.declared.file.Held.{Held}
-use Rattle.ring_math.specs.Files.{Slot, slot_of, buried, buried_at, buried_all, has_entry, has_room, is_entry}
+use Rattle.ring_math.specs.Files.{Slot, slot_of, with_slot, buried, buried_at, buried_all, has_entry, has_room, is_entry}
 use Rattle.file_store.specs.Store.{Store}
 use Rattle.file_store.specs.Places.{is_rising}
-use Rattle.file_store.specs.declared.answer.Bury.TheVariants.{Already, Buried, Laid, Full}
-use Rattle.file_store.specs.Answers.{bury_at, bury_of, can_set}
+use Rattle.file_store.specs.declared.answer.Bury.TheVariants.{Buried, Laid, Full}
+use Rattle.file_store.specs.Answers.{bury_at, bury_of, after_bury, can_set}
 use Rattle.ring_math.specs.Bytewise.{same_bytes}
 use Rattle.file_store.proofs.Slots.{by_test, if_both, with-same, slot-with, rising-with, length-with_least, length-with_old, length-with_new}
 
-buried_has_entry : (o : Option Slot) (room : Bool) → bury_at o room ≡ Buried → is_entry o ≡ true
-buried_has_entry None true e = cc
-buried_has_entry None false e = cc
-buried_has_entry (Some None) room e = cc
-buried_has_entry (Some (Some b)) room e = refl
+set_after : (o : Option Slot) (room : Bool) (hs : List Held) (f : FileId) → (o ≡ Some None → with_slot hs f None ≡ hs) → (is_entry o || room) ≡ true →
+    with_slot hs f None ≡ after_bury (bury_at o room) hs f
+set_after None true hs f same may = refl
+set_after None false hs f same may = cc
+set_after (Some None) room hs f same may = same refl
+set_after (Some (Some b)) room hs f same may = refl
 
-pub can_set-buried : (store : Store) (f : List ℕ) → bury_of store.files f ≡ Buried → IsTrue (can_set store f)
-can_set-buried store f e = let h : has_entry store.files f ≡ true = buried_has_entry _ _ e in grind (arith, nat_tests)
-
-already_tomb : (o : Option Slot) (room : Bool) → bury_at o room ≡ Already → o ≡ Some None
-already_tomb None true e = cc
-already_tomb None false e = cc
-already_tomb (Some None) room e = refl
-already_tomb (Some (Some b)) room e = cc
-
--- a tombstone that is buried again stays
-pub buried-already : (hs : List Held) (f : List ℕ) → is_rising hs ≡ true → bury_of hs f ≡ Already → hs ≡ buried hs f
-buried-already hs f r e =
-    let tomb : slot_of hs f ≡ Some None = already_tomb _ _ e in
-    sym (ap (buried_at hs f) tomb ∙ with-same hs f None r tomb)
+-- where the file has an entry or there is room, burying it sets its entry; a tombstone that is set again stays
+pub set-buries : (hs : List Held) (f : FileId) → is_rising hs ≡ true → (has_entry hs f || has_room hs) ≡ true →
+    with_slot hs f None ≡ after_bury (bury_of hs f) hs f
+set-buries hs f r may = set_after (slot_of hs f) (has_room hs) hs f (λ tomb. with-same hs f None r tomb) may
 
 laid_in_room : (o : Option Slot) (room : Bool) → bury_at o room ≡ Laid → (o ≡ None) × (room ≡ true)
 laid_in_room None true e = (refl, refl)
@@ -40,21 +34,9 @@ laid_in_room None false e = cc
 laid_in_room (Some None) room e = cc
 laid_in_room (Some (Some b)) room e = cc
 
-pub can_set-laid : (store : Store) (f : List ℕ) → bury_of store.files f ≡ Laid → length store.files < store.room → IsTrue (can_set store f)
-can_set-laid store f e l = let h = (laid_in_room _ _ e).1 in grind (arith, nat_tests)
-
-full_stays : (o : Option Slot) (room : Bool) (hs : List Held) (f : List ℕ) → room ≡ has_room hs → bury_at o room ≡ Full → hs ≡ buried_at hs f o
-full_stays None true hs f r e = cc
-full_stays None false hs f r e = rw (sym r) refl
-full_stays (Some None) room hs f r e = cc
-full_stays (Some (Some b)) room hs f r e = cc
-
--- where there is no room nothing is laid
-pub buried-full : (hs : List Held) (f : List ℕ) → bury_of hs f ≡ Full → hs ≡ buried hs f
-buried-full hs f e = full_stays (slot_of hs f) (has_room hs) hs f refl e
-
 -- what becomes of the file's slot when t is buried
-pub slot-buried : (hs : List Held) (t f : List ℕ) → (has_entry hs t || has_room hs) ≡ true → slot_of (buried hs t) f ≡ (if same_bytes t f then Some None else slot_of hs f)
+pub slot-buried : (hs : List Held) (t f : List ℕ) → (has_entry hs t || has_room hs) ≡ true →
+    slot_of (buried hs t) f ≡ (if same_bytes t f then Some None else slot_of hs f)
 slot-buried hs t f may = at (slot_of hs t) may where
   at : (o : Option Slot) → (is_entry o || has_room hs) ≡ true → slot_of (buried_at hs t o) f ≡ (if same_bytes t f then Some None else slot_of hs f)
   at None may = rw may (slot-with hs t None f)
@@ -97,15 +79,17 @@ rising-buried hs t r = at (slot_of hs t) where
   at (Some s) = rising-with hs t None r
 
 -- at most one more, and never more than 4,096
-pub length-buried : (hs : List Held) (t : List ℕ) → is_rising hs ≡ true → length hs ≤ 4096 → (length (buried hs t) ≤ length hs + 1) × (length (buried hs t) ≤ 4096)
+pub length-buried : (hs : List Held) (t : List ℕ) → is_rising hs ≡ true → length hs ≤ MOST_ENTRIES →
+    (length (buried hs t) ≤ length hs + 1) × (length (buried hs t) ≤ MOST_ENTRIES)
 length-buried hs t r l =
     by_test (has_entry hs t)
     (λ e. let old = length-buried_old hs t r e in (omega arith, omega arith))
     (λ e. by_test (has_room hs)
-    (λ u. let new = length-buried_new hs t e u in let below = ltb-true (length hs) 4096 u in (omega arith, omega arith))
+    (λ u. let new = length-buried_new hs t e u in let below = ltb-true (length hs) MOST_ENTRIES u in (omega arith, omega arith))
     (λ u. let same = ap length (buried-refused hs t (rw (e, u) refl)) in (omega arith, omega arith)))
 
-pub length-buried_all : (hs : List Held) (ts : List (List ℕ)) → is_rising hs ≡ true → length hs ≤ 4096 → (length (buried_all hs ts) ≤ length hs + length ts) × (length (buried_all hs ts) ≤ 4096)
+pub length-buried_all : (hs : List Held) (ts : List (List ℕ)) → is_rising hs ≡ true → length hs ≤ MOST_ENTRIES →
+    (length (buried_all hs ts) ≤ length hs + length ts) × (length (buried_all hs ts) ≤ MOST_ENTRIES)
 length-buried_all hs [] r l = (omega arith, omega arith)
 length-buried_all hs (t ∷ ts) r l =
     let one = length-buried hs t r l in
@@ -117,7 +101,8 @@ buried_all-append hs [] ys = refl
 buried_all-append hs (x ∷ xs) ys = buried_all-append (buried hs x) xs ys
 
 -- one more of the list is buried
-pub buried_all-turn : (hs : List Held) (ts : List (List ℕ)) (i : ℕ) (t : List ℕ) → i < length ts → t ≡ get_or ts i t → buried_all hs (take (i + 1) ts) ≡ buried (buried_all hs (take i ts)) t
+pub buried_all-turn : (hs : List Held) (ts : List (List ℕ)) (i : ℕ) (t : List ℕ) → i < length ts → t ≡ get_or ts i t →
+    buried_all hs (take (i + 1) ts) ≡ buried (buried_all hs (take i ts)) t
 buried_all-turn hs ts i t l e =
     ap (buried_all hs) (take_more ts i t l) ∙ buried_all-append hs (take i ts) (get_or ts i t ∷ []) ∙ ap (buried (buried_all hs (take i ts))) (sym e)
 
@@ -129,7 +114,8 @@ length-buried_part hs (t ∷ ts) zero = length-buried_all_least hs (t ∷ ts)
 length-buried_part hs (t ∷ ts) (suc i) = length-buried_part (buried hs t) ts i
 
 -- a list of which each file has an entry adds none
-pub length-buried_known : (hs : List Held) (ts : List (List ℕ)) → is_rising hs ≡ true → list_all (has_entry hs) ts ≡ true → length (buried_all hs ts) ≡ length hs
+pub length-buried_known : (hs : List Held) (ts : List (List ℕ)) → is_rising hs ≡ true → list_all (has_entry hs) ts ≡ true →
+    length (buried_all hs ts) ≡ length hs
 length-buried_known hs [] r e = refl
 length-buried_known hs (t ∷ ts) r e =
     let known = and-parts (has_entry hs t) (list_all (has_entry hs) ts) e in
@@ -141,9 +127,11 @@ length-buried_known hs (t ∷ ts) r e =
 
     stands_on : (hs : List Held) (t f : List ℕ) → has_entry hs t ≡ true → has_entry hs f ≡ true → has_entry (buried hs t) f ≡ true
     stands_on hs t f e u =
-        ap is_entry (slot-buried hs t f (rw e refl)) ∙ if_both (λ (o : Option Slot). is_entry o ≡ true) (same_bytes t f) (Some None) (slot_of hs f) (λ _. refl) (λ _. u)
+        ap is_entry (slot-buried hs t f (rw e refl)) ∙ if_both (λ (o : Option Slot). is_entry o ≡ true) (same_bytes t f) (Some None) (slot_of hs f)
+        (λ _. refl) (λ _. u)
 
-    still : (hs : List Held) (t : List ℕ) (fs : List (List ℕ)) → has_entry hs t ≡ true → list_all (has_entry hs) fs ≡ true → list_all (has_entry (buried hs t)) fs ≡ true
+    still : (hs : List Held) (t : List ℕ) (fs : List (List ℕ)) → has_entry hs t ≡ true → list_all (has_entry hs) fs ≡ true →
+        list_all (has_entry (buried hs t)) fs ≡ true
     still hs t [] e u = refl
     still hs t (f ∷ fs) e u =
         let known = and-parts (has_entry hs f) (list_all (has_entry hs) fs) u in

@@ -1,5 +1,6 @@
 -- Lists of files: which files they name, and those that rise name no file twice.
-use Rattle.std.proofs.Common.{◌≡◌, ℕ, ◌+◌, ◌<◌, ◌≤◌, Bool, true, false, ◌&&◌, ◌||◌, List, [], ◌∷◌, length, get_or, take, drop, take-append-drop, take_all, length-drop, ◌-◌, zero, suc, refl, sym, ◌∙◌, ap, arith, add-one}
+use Rattle.std.proofs.Common.{◌≡◌, ℕ, ◌+◌, ◌<◌, ◌≤◌, Bool, true, false, ◌&&◌, ◌||◌, List, [], ◌∷◌, length, get_or, take, drop, take-append-drop}
+use Rattle.std.proofs.Common.{take_all, length-drop, ◌-◌, zero, suc, refl, sym, ◌∙◌, ap, arith, add-one}
 use Rattle.std.proofs.lemmas.List.Folds.{list_any-append}
 use Rattle.ring_math.specs.Bytewise.{same_bytes, is_before}
 use Rattle.file_store.specs.Burial.{is_named, comes_first, rises}
@@ -10,13 +11,15 @@ both true b e = (refl, e)
 both false b e = cc
 
 -- the first two decide, and then the rest
-rises-first : (fs : List (List ℕ)) (i : ℕ) → suc i < length fs → rises (drop i fs) ≡ (is_before (get_or fs i []) (get_or fs (suc i) []) && rises (drop (suc i) fs))
+rises-first : (fs : List (List ℕ)) (i : ℕ) → suc i < length fs →
+    rises (drop i fs) ≡ (is_before (get_or fs i []) (get_or fs (suc i) []) && rises (drop (suc i) fs))
 rises-first [] i l = absurd (omega arith)
 rises-first (f ∷ []) i l = absurd (omega arith)
 rises-first (f ∷ g ∷ fs) zero l = refl
 rises-first (f ∷ g ∷ fs) (suc i) l = rises-first (g ∷ fs) i (omega arith)
 
-pub rises-turn : (fs : List (List ℕ)) (i : ℕ) → i + 1 < length fs → rises (drop i fs) ≡ (is_before (get_or fs i []) (get_or fs (i + 1) []) && rises (drop (i + 1) fs))
+pub rises-turn : (fs : List (List ℕ)) (i : ℕ) → i + 1 < length fs →
+    rises (drop i fs) ≡ (is_before (get_or fs i []) (get_or fs (i + 1) []) && rises (drop (i + 1) fs))
 rises-turn fs i l = rw add-one (rises-first fs i (omega arith))
 
 -- one file alone rises

@@ -1,8 +1,10 @@
 -- Where a file stands, and what a change at that place makes of the list.
-use Rattle.std.proofs.Common.{◌≡◌, IsTrue, ◌||◌, ◌<◌, ◌≤◌, ℕ, ◌+◌, Bool, true, false, not, ◌&&◌, if◌then◌else◌, List, [], ◌∷◌, length, get_or, refl, sym, ◌∙◌, arith, Option, Some, None, ap, suc, zero}
+use Rattle.std.proofs.Common.{◌≡◌, IsTrue, ◌||◌, ◌<◌, ◌≤◌, ℕ, ◌+◌, Bool, true, false, not, ◌&&◌, if◌then◌else◌, List, [], ◌∷◌, length, get_or, refl}
+use Rattle.std.proofs.Common.{sym, ◌∙◌, arith, Option, Some, None, ap, suc, zero}
 use Rattle.std.proofs.Math.ListN.{set}
 use Rattle.std.specs.List.{insert, list_all}
 use Rattle.std.proofs.lemmas.Bool.Decides.{nat_tests}
+use Rattle.ring_math.specs.declared.limits.TheConstants.{MOST_ENTRIES}
 use Rattle.ring_math.specs.declared.file.Held.{Held}
 use Rattle.ring_math.specs.Bytewise.{same_bytes, is_before}
 use Rattle.ring_math.specs.Files.{Slot, slot_of, with_slot, has_entry, has_tomb, is_entry, is_tomb}
@@ -40,13 +42,15 @@ first-before x f [] e r = refl
 first-before x f (h ∷ hs) e r = before-trans f x h.file e r
 
 -- each entry of a rising list comes after what comes before the first
-rising-after : (f : List ℕ) (hs : List Held) (i : ℕ) (d : Held) → is_before_first f hs ≡ true → is_rising hs ≡ true → i < length hs → is_before f (get_or hs i d).file ≡ true
+rising-after : (f : List ℕ) (hs : List Held) (i : ℕ) (d : Held) → is_before_first f hs ≡ true → is_rising hs ≡ true → i < length hs →
+    is_before f (get_or hs i d).file ≡ true
 rising-after f [] i d e r l = absurd (omega arith)
 rising-after f (h ∷ hs) zero d e r l = e
 rising-after f (h ∷ hs) (suc i) d e r l = rising-after f hs i d (first-before h.file f hs e (both _ _ r).0) (both _ _ r).1 (omega arith)
 
 -- of a rising list, no entry from the place on comes before the file
-pub after-place : (hs : List Held) (f : List ℕ) (i : ℕ) (d : Held) → is_rising hs ≡ true → place_of hs f ≤ i → i < length hs → is_before (get_or hs i d).file f ≡ false
+pub after-place : (hs : List Held) (f : List ℕ) (i : ℕ) (d : Held) → is_rising hs ≡ true → place_of hs f ≤ i → i < length hs →
+    is_before (get_or hs i d).file f ≡ false
 after-place [] f i d r p l = absurd (omega arith)
 after-place (h ∷ hs) f zero d r p l = by_test (is_before h.file f) (λ t. absurd (let k = rw t at p in omega arith)) (λ t. t)
 after-place (h ∷ hs) f (suc i) d r p l =
@@ -60,7 +64,8 @@ after-place (h ∷ hs) f (suc i) d r p l =
       clash w = cc
 
 -- one step of the search: the place is beyond an entry that comes before the file
-pub beyond : (hs : List Held) (f : List ℕ) (i : ℕ) (d : Held) → is_rising hs ≡ true → i < length hs → is_before (get_or hs i d).file f ≡ true → i < place_of hs f
+pub beyond : (hs : List Held) (f : List ℕ) (i : ℕ) (d : Held) → is_rising hs ≡ true → i < length hs → is_before (get_or hs i d).file f ≡ true →
+    i < place_of hs f
 beyond hs f i d r l t = grind (arith, after-place hs f i d r)
 
 -- and not beyond one that does not
@@ -124,7 +129,8 @@ with-insert (h ∷ hs) f s e =
 and-true : (a b : Bool) → a ≡ true → b ≡ true → a && b ≡ true
 and-true a b e f = rw (e, f) refl
 
-rising-with-first : (x : List ℕ) (hs : List Held) (f : List ℕ) (s : Slot) → is_before x f ≡ true → is_before_first x hs ≡ true → is_before_first x (with_slot hs f s) ≡ true
+rising-with-first : (x : List ℕ) (hs : List Held) (f : List ℕ) (s : Slot) → is_before x f ≡ true → is_before_first x hs ≡ true →
+    is_before_first x (with_slot hs f s) ≡ true
 rising-with-first x [] f s e r = e
 rising-with-first x (h ∷ hs) f s e r =
     let P : List Held → Type 0 = λ zs. is_before_first x zs ≡ true in
@@ -183,10 +189,12 @@ here-read : (hs : List Held) (f : List ℕ) (p : ℕ) (x : Held) → p ≡ place
 here-read hs f p x e l r = here-at hs f x (omega arith) ∙ ap (λ (h : Held). same_bytes h.file f) (sym (r ∙ ap (λ q. get_or hs q x) e))
 
 -- the entry that was read at the place decides whether the file stands there
-pub stands : (hs : List Held) (f : List ℕ) (p : ℕ) (x : Held) → p ≡ place_of hs f → p < length hs → x ≡ get_or hs p x → same_bytes x.file f ≡ true → StandsAt hs f p
+pub stands : (hs : List Held) (f : List ℕ) (p : ℕ) (x : Held) → p ≡ place_of hs f → p < length hs → x ≡ get_or hs p x → same_bytes x.file f ≡ true →
+    StandsAt hs f p
 stands hs f p x e l r t = record { place = e; within = l; here = here-read hs f p x e l r ∙ t }
 
-pub goes_in : (hs : List Held) (f : List ℕ) (p : ℕ) (x : Held) → p ≡ place_of hs f → p < length hs → x ≡ get_or hs p x → same_bytes x.file f ≡ false → GoesInAt hs f p
+pub goes_in : (hs : List Held) (f : List ℕ) (p : ℕ) (x : Held) → p ≡ place_of hs f → p < length hs → x ≡ get_or hs p x → same_bytes x.file f ≡ false →
+    GoesInAt hs f p
 goes_in hs f p x e l r t = record { place = e; within = omega arith; absent = here-read hs f p x e l r ∙ t }
 
 pub goes_in-end : (hs : List Held) (f : List ℕ) (p : ℕ) → p ≡ place_of hs f → p ≡ length hs → GoesInAt hs f p
@@ -208,13 +216,15 @@ file-stands hs f p d at =
     let here = here-at hs f d (let e = at.place in let w = at.within in omega arith) in
     same-eq (get_or hs p d).file f (ap (λ q. same_bytes (get_or hs q d).file f) at.place ∙ sym here ∙ at.here)
 
-pub placed-set : (hs : List Held) (f : List ℕ) (s : Slot) (p : ℕ) (new : List Held) → StandsAt hs f p → new ≡ set hs p (record (get_or hs p blank) { slot = s }) → Placed hs f s new
+pub placed-set : (hs : List Held) (f : List ℕ) (s : Slot) (p : ℕ) (new : List Held) → StandsAt hs f p →
+    new ≡ set hs p (record (get_or hs p blank) { slot = s }) → Placed hs f s new
 placed-set hs f s p new at n = record {
   same = n ∙ ap (λ g. set hs p (record { file = g; slot = s })) (file-stands hs f p blank at)
       ∙ ap (λ q. set hs q (record { file = f; slot = s })) at.place ∙ sym (with-set hs f s at.here);
 }
 
-pub placed-insert : (hs : List Held) (f : List ℕ) (s : Slot) (p : ℕ) (new : List Held) → GoesInAt hs f p → new ≡ insert hs p (record { file = f; slot = s }) → Placed hs f s new
+pub placed-insert : (hs : List Held) (f : List ℕ) (s : Slot) (p : ℕ) (new : List Held) → GoesInAt hs f p →
+    new ≡ insert hs p (record { file = f; slot = s }) → Placed hs f s new
 placed-insert hs f s p new at n = record { same = n ∙ ap (λ q. insert hs q (record { file = f; slot = s })) at.place ∙ sym (with-insert hs f s at.absent) }
 
 pub rising-placed : {hs : List Held} {f : List ℕ} {s : Slot} {new : List Held} → Placed hs f s new → is_rising hs ≡ true → is_rising new ≡ true
@@ -227,7 +237,8 @@ pub has_entry-goes_in : (hs : List Held) (f : List ℕ) (p : ℕ) → GoesInAt h
 has_entry-goes_in hs f p g r = ap is_entry (slot-none hs f r g.absent)
 
 -- a file that can be set and has no entry finds room
-pub room_left : (store : Store) (f : List ℕ) → None ≡ slot_of store.files f → IsTrue (can_set store f) → (length store.files < 4096) × (length store.files < store.room)
+pub room_left : (store : Store) (f : List ℕ) → None ≡ slot_of store.files f → IsTrue (can_set store f) →
+    (length store.files < MOST_ENTRIES) × (length store.files < store.room)
 room_left store f e may = let none : has_entry store.files f ≡ false = ap is_entry (sym e) in (grind (arith, nat_tests), grind (arith, nat_tests))
 
 -- the file has the slot that was set for it, and every other file what it had
@@ -246,13 +257,15 @@ slot-with (h ∷ hs) t s f =
     other a b c e u = rw (same-eq a b e) u
 
     differs : (a b c : List ℕ) → same_bytes a b ≡ false → same_bytes a c ≡ true → same_bytes b c ≡ false
-    differs a b c e u = by_test (same_bytes b c) (λ v. let p = same-eq a c u in let q = same-eq b c v in let r : same_bytes a b ≡ true = rw (p ∙ sym q) (same-refl b) in absurd (cc)) (λ v. v)
+    differs a b c e u = by_test (same_bytes b c) (λ v. let p = same-eq a c u in let q = same-eq b c v in
+        let r : same_bytes a b ≡ true = rw (p ∙ sym q) (same-refl b) in absurd (cc)) (λ v. v)
 
 pub length-with_least : (hs : List Held) (f : List ℕ) (s : Slot) → length hs ≤ length (with_slot hs f s)
 length-with_least [] f s = omega arith
 length-with_least (h ∷ hs) f s =
     let P : List Held → Type 0 = λ zs. length (h ∷ hs) ≤ length zs in
-    if_both P (same_bytes h.file f) _ _ (λ _. omega arith) (λ _. if_both P (is_before f h.file) _ _ (λ _. omega arith) (λ _. omega (arith, length-with_least hs f s)))
+    if_both P (same_bytes h.file f) _ _ (λ _. omega arith) (λ _. if_both P (is_before f h.file) _ _ (λ _. omega arith)
+    (λ _. omega (arith, length-with_least hs f s)))
 
 -- a test that holds alike at each file holds alike of a list
 pub list_all-same : (p q : List ℕ → Bool) → ((f : List ℕ) → p f ≡ q f) → (fs : List (List ℕ)) → list_all p fs ≡ list_all q fs
@@ -260,13 +273,15 @@ list_all-same p q e [] = refl
 list_all-same p q e (f ∷ fs) = rw (e f, list_all-same p q e fs) refl
 
 -- what has an entry, and what is a tombstone, once bytes stand for a file
-pub entries-with : (hs : List Held) (t : List ℕ) (b : List ℕ) (fs : List (List ℕ)) → list_all (λ f. same_bytes t f || has_entry hs f) fs ≡ list_all (has_entry (with_slot hs t (Some b))) fs
+pub entries-with : (hs : List Held) (t : List ℕ) (b : List ℕ) (fs : List (List ℕ)) →
+    list_all (λ f. same_bytes t f || has_entry hs f) fs ≡ list_all (has_entry (with_slot hs t (Some b))) fs
 entries-with hs t b fs = list_all-same _ _ (λ f. sym (ap is_entry (slot-with hs t (Some b) f) ∙ either (same_bytes t f) (slot_of hs f))) fs where
   either : (a : Bool) (o : Option Slot) → is_entry (if a then Some (Some b) else o) ≡ (a || is_entry o)
   either true o = refl
   either false o = refl
 
-pub tombs-with : (hs : List Held) (t : List ℕ) (b : List ℕ) (fs : List (List ℕ)) → list_all (λ f. not (same_bytes t f) && has_tomb hs f) fs ≡ list_all (has_tomb (with_slot hs t (Some b))) fs
+pub tombs-with : (hs : List Held) (t : List ℕ) (b : List ℕ) (fs : List (List ℕ)) →
+    list_all (λ f. not (same_bytes t f) && has_tomb hs f) fs ≡ list_all (has_tomb (with_slot hs t (Some b))) fs
 tombs-with hs t b fs = list_all-same _ _ (λ f. sym (ap is_tomb (slot-with hs t (Some b) f) ∙ either (same_bytes t f) (slot_of hs f))) fs where
   either : (a : Bool) (o : Option Slot) → is_tomb (if a then Some (Some b) else o) ≡ (not a && is_tomb o)
   either true o = refl

@@ -1,11 +1,13 @@
 -- What becomes of entries in their order when one comes in, and when one gets another slot.
-use Rattle.std.proofs.Common.{◌≡◌, ◌≢◌, get_or-set_other, get_or-set_same, length-set, ◌<◌, ◌≤◌, ℕ, ◌+◌, ◌==◌, Bool, true, false, not, ◌&&◌, nat_lt, List, [], ◌∷◌, ◌++◌, length, get_or, zero, suc, refl, sym, subst, inl, inr, ◌∙◌, ap, arith}
+use Rattle.std.proofs.Common.{◌≡◌, ◌≢◌, get_or-set_other, get_or-set_same, length-set, ◌<◌, ◌≤◌, ℕ, ◌+◌, ◌==◌, Bool, true, false, not, ◌&&◌, nat_lt}
+use Rattle.std.proofs.Common.{List, [], ◌∷◌, ◌++◌, length, get_or, zero, suc, refl, sym, subst, inl, inr, ◌∙◌, ap, arith}
 use Rattle.std.proofs.Math.ListN.{set}
 use Rattle.std.specs.List.{insert}
 use Rattle.std.proofs.lemmas.Bool.Decides.{nat_tests}
 use Rattle.std.proofs.lemmas.Bool.{cases_lt, lt-ltb, le-ltb}
 use Rattle.std.proofs.lemmas.List.{get_or_default}
 use Rattle.std.proofs.lemmas.List.Edits.{length-insert}
+use Rattle.ring_math.specs.declared.limits.TheConstants.{MOST_ENTRIES}
 use Rattle.ring_math.specs.declared.file.Held.{Held}
 use Rattle.ring_math.specs.Bytewise.{is_before}
 use Rattle.ring_math.specs.Files.{Slot}
@@ -40,7 +42,8 @@ leads-at entries [] i d e l = absurd (omega arith)
 leads-at entries (p ∷ ps) zero d e l = e.0
 leads-at entries (p ∷ ps) (suc i) d e l = leads-at entries ps i d e.1 (omega arith)
 
-pub spread-at : (entries : List Held) (places : List ℕ) (i : ℕ) (d : ℕ) (x : Held) → i < length places → get_or (spread entries places) i x ≡ entry_at entries (get_or places i d)
+pub spread-at : (entries : List Held) (places : List ℕ) (i : ℕ) (d : ℕ) (x : Held) → i < length places →
+    get_or (spread entries places) i x ≡ entry_at entries (get_or places i d)
 spread-at entries [] i d x l = absurd (omega arith)
 spread-at entries (p ∷ ps) zero d x l = refl
 spread-at entries (p ∷ ps) (suc i) d x l = spread-at entries ps i d x (omega arith)
@@ -67,7 +70,8 @@ leads-pushed : (entries : List Held) (h : Held) (places : List ℕ) → EachLead
 leads-pushed entries h [] e = tt
 leads-pushed entries h (p ∷ ps) e = (let l = e.0 in let n = length-pushed entries h in omega arith, leads-pushed entries h ps e.1)
 
-heads-pushed : (entries : List Held) (heads : List ℕ) (h : Held) (n : ℕ) → EachHead entries heads → IsHead h.file n → EachHead (entries ++ h ∷ []) (heads ++ n ∷ [])
+heads-pushed : (entries : List Held) (heads : List ℕ) (h : Held) (n : ℕ) → EachHead entries heads → IsHead h.file n →
+    EachHead (entries ++ h ∷ []) (heads ++ n ∷ [])
 heads-pushed [] [] h n e q = (q, tt)
 heads-pushed [] (m ∷ ms) h n e q = absurd e
 heads-pushed (x ∷ xs) [] h n e q = absurd e
@@ -86,10 +90,12 @@ head-at (x ∷ xs) (m ∷ ms) zero d e l = e.0
 head-at (x ∷ xs) (m ∷ ms) (suc i) d e l = head-at xs ms i d e.1 (omega arith)
 
 -- the head that was read is that of the entry
-pub head-read : (entries : List Held) (heads : List ℕ) (i n : ℕ) → EachHead entries heads → i < length entries → n ≡ get_or heads i n → IsHead (entry_at entries i).file n
+pub head-read : (entries : List Held) (heads : List ℕ) (i n : ℕ) → EachHead entries heads → i < length entries → n ≡ get_or heads i n →
+    IsHead (entry_at entries i).file n
 head-read entries heads i n e l r = subst (IsHead (entry_at entries i).file) (sym r) (head-at entries heads i n e l)
 
-spread-insert : (entries : List Held) (places : List ℕ) (i : ℕ) (p : ℕ) → spread entries (insert places i p) ≡ insert (spread entries places) i (entry_at entries p)
+spread-insert : (entries : List Held) (places : List ℕ) (i : ℕ) (p : ℕ) →
+    spread entries (insert places i p) ≡ insert (spread entries places) i (entry_at entries p)
 spread-insert entries places zero p = refl
 spread-insert entries [] (suc i) p = refl
 spread-insert entries (q ∷ qs) (suc i) p = ap (λ hs. entry_at entries q ∷ hs) (spread-insert entries qs i p)
@@ -127,7 +133,8 @@ pub kept-empty : Kept [] [] []
 kept-empty = record { count = refl; beside = refl; limit = omega arith; leads = tt; begins = tt; apart = refl }
 
 -- one more entry, its head, and a place for it
-pub kept-insert : (entries : List Held) (heads places : List ℕ) (i : ℕ) (h : Held) (n p : ℕ) → Kept entries heads places → length entries < 4096 → i ≤ length places →
+pub kept-insert : (entries : List Held) (heads places : List ℕ) (i : ℕ) (h : Held) (n p : ℕ) → Kept entries heads places → length entries < MOST_ENTRIES →
+    i ≤ length places →
     p ≡ length entries → IsHead h.file n → Kept (entries ++ h ∷ []) (heads ++ n ∷ []) (insert places i p)
 kept-insert entries heads places i h n p k room l e head = record {
   count = let c = k.count in let more = length-pushed entries h in let m = length-insert places i p l in omega arith;
@@ -180,13 +187,15 @@ leads-set : (entries : List Held) (e : ℕ) (h : Held) (places : List ℕ) → E
 leads-set entries e h [] l = tt
 leads-set entries e h (p ∷ ps) l = (let n = length-set entries e h in let w = l.0 in omega arith, leads-set entries e h ps l.1)
 
-heads-set : (entries : List Held) (heads : List ℕ) (e : ℕ) (h : Held) → h.file ≡ (get_or entries e blank).file → EachHead entries heads → EachHead (set entries e h) heads
+heads-set : (entries : List Held) (heads : List ℕ) (e : ℕ) (h : Held) → h.file ≡ (get_or entries e blank).file → EachHead entries heads →
+    EachHead (set entries e h) heads
 heads-set [] heads e h f k = k
 heads-set (x ∷ xs) [] e h f k = absurd k
 heads-set (x ∷ xs) (m ∷ ms) zero h f k = (subst (λ (g : List ℕ). IsHead g m) (sym f) k.0, k.1)
 heads-set (x ∷ xs) (m ∷ ms) (suc e) h f k = (k.0, heads-set xs ms e h f k.1)
 
-pub kept-set : (entries : List Held) (heads places : List ℕ) (e : ℕ) (h : Held) → Kept entries heads places → h.file ≡ (get_or entries e blank).file → Kept (set entries e h) heads places
+pub kept-set : (entries : List Held) (heads places : List ℕ) (e : ℕ) (h : Held) → Kept entries heads places → h.file ≡ (get_or entries e blank).file →
+    Kept (set entries e h) heads places
 kept-set entries heads places e h k f = record {
   count = let n = length-set entries e h in let c = k.count in omega arith;
   beside = length-heads (set entries e h) heads (heads-set entries heads e h f k.begins);
@@ -197,15 +206,18 @@ kept-set entries heads places e h k f = record {
 }
 
 -- the place that was read leads to an entry
-pub leads-read : (entries : List Held) (places : List ℕ) (i : ℕ) (p : ℕ) → EachLeads entries places → i < length (spread entries places) → p ≡ get_or places i p → p < length entries
-leads-read entries places i p k l r = subst (λ (q : ℕ). q < length entries) (sym r) (leads-at entries places i p k (let n = length-spread entries places in omega arith))
+pub leads-read : (entries : List Held) (places : List ℕ) (i : ℕ) (p : ℕ) → EachLeads entries places → i < length (spread entries places) →
+    p ≡ get_or places i p → p < length entries
+leads-read entries places i p k l r = subst (λ (q : ℕ). q < length entries) (sym r)
+    (leads-at entries places i p k (let n = length-spread entries places in omega arith))
 
 -- and the entry is the one of the order
 pub spread-read : (entries : List Held) (places : List ℕ) (i : ℕ) (p : ℕ) (d : Held) → i < length (spread entries places) → p ≡ get_or places i p →
     get_or (spread entries places) i d ≡ entry_at entries p
 spread-read entries places i p d l r = spread-at entries places i p d (let n = length-spread entries places in omega arith) ∙ ap (entry_at entries) (sym r)
 
-pub entry-read : (entries : List Held) (places : List ℕ) (i : ℕ) (p : ℕ) (x : Held) → EachLeads entries places → i < length (spread entries places) → p ≡ get_or places i p →
+pub entry-read : (entries : List Held) (places : List ℕ) (i : ℕ) (p : ℕ) (x : Held) → EachLeads entries places → i < length (spread entries places) →
+    p ≡ get_or places i p →
     x ≡ get_or entries p x → x ≡ get_or (spread entries places) i x
 entry-read entries places i p x k l r e =
     let leads = leads-read entries places i p k l r in
@@ -218,8 +230,10 @@ head-decides f g m n p q d = elim (cases_lt m n) [
 ]
 
 -- another slot for the entry at a place of the order
-pub slot-set : (entries : List Held) (places : List ℕ) (i : ℕ) (p : ℕ) (s : Slot) → EachLeads entries places → are_apart places ≡ true → i < length (spread entries places) → p ≡ get_or places i p →
-    spread (set entries p (record (get_or entries p blank) { slot = s })) places ≡ set (spread entries places) i (record (get_or (spread entries places) i blank) { slot = s })
+pub slot-set : (entries : List Held) (places : List ℕ) (i : ℕ) (p : ℕ) (s : Slot) → EachLeads entries places → are_apart places ≡ true →
+    i < length (spread entries places) → p ≡ get_or places i p →
+    spread (set entries p (record (get_or entries p blank) { slot = s })) places ≡ set (spread entries places) i
+    (record (get_or (spread entries places) i blank) { slot = s })
 slot-set entries places i p s k a l r =
     ap (λ (q : ℕ). spread (set entries q (record (get_or entries p blank) { slot = s })) places) r
     ∙ spread-set entries places i p (record (get_or entries p blank) { slot = s }) k a (let n = length-spread entries places in omega arith)

@@ -1,6 +1,7 @@
 -- Entries that stay where they came in, and places that give their order.
 use Rattle.std.specs.Prelude.{◌≡◌, ◌<◌, ◌≤◌, ℕ, ◌==◌, Bool, true, not, ◌&&◌, None, List, [], ◌∷◌, length, map, slice_index_or}
 use Rattle.std.specs.List.{list_all}
+use Rattle.ring_math.specs.declared.limits.TheConstants.{MOST_ENTRIES}
 use Rattle.ring_math.specs.declared.file.Held.{Held}
 use Rattle.file_store.specs.Heads.{IsHead}
 
@@ -36,11 +37,11 @@ abbrev pub are_apart : List ℕ → Bool
 are_apart [] = true
 are_apart (p ∷ ps) = is_free p ps && are_apart ps
 
--- what a row keeps
+-- what an arena keeps
 pub record Kept (entries : List Held) (heads places : List ℕ) : Type 0 where
   pub count : length places ≡ length entries
   pub beside : length heads ≡ length entries
-  pub limit : length entries ≤ 4096
+  pub limit : length entries ≤ MOST_ENTRIES
   pub leads : EachLeads entries places
   pub begins : EachHead entries heads
   pub apart : are_apart places ≡ true

@@ -1,14 +1,15 @@
 //! A store as it will be once a change was made, seen before anything changes and without a copy.
 
-ghost use Rattle.std.specs.Prelude.{◌≡◌, ◌<◌, ◌≤◌, ◌||◌, ◌&&◌, not, true, length, take, is_some, IfSome, option_copied, option_map, slice_index_or, [], Some, ℕ, List};
+ghost use Rattle.std.specs.Prelude.{◌≡◌, ◌<◌, ◌≤◌, ◌||◌, ◌&&◌, not, true, length, take, is_some, IfSome};
+ghost use Rattle.std.specs.Prelude.{option_copied, option_map, slice_index_or, [], Some, ℕ, List};
 ghost use Rattle.std.specs.List.{list_all};
 ghost use Rattle.ring_math.specs.Bytewise.{same_bytes};
 ghost use Rattle.ring_math.specs.Files.{slot_of, with_slot, has_entry, has_tomb, has_lists, buried_all};
 ghost use Rattle.file_store.specs.Burial.{is_named, Reaches, rises};
 
 use crate::order::{comes_before, is_same};
-use crate::store::{FileStore, LIMIT};
-use ring_math::{Bytes, FileId};
+use crate::store::FileStore;
+use ring_math::{Bytes, FileId, MOST_ENTRIES};
 use std::marker::Model;
 
 /// A store as it will be once these tombs are buried in order, as `bury_all` leaves it.
@@ -175,7 +176,7 @@ fn is_new(store: &FileStore, tombs: &[FileId], place: usize, is_rising: bool) ->
 fn reach_of(store: &FileStore, tombs: &[FileId]) -> usize
     ensures { Reaches store.now.files tombs.now result }
 {
-    let mut spare = LIMIT - store.entries();
+    let mut spare = MOST_ENTRIES - store.entries();
     if tombs.len() <= spare {
         return tombs.len();
     }

@@ -11,7 +11,7 @@ pub enum Put {
     Differs,
     /// A tombstone stands.
     Gone,
-    /// There is no entry for the file, and 4,096 stand.
+    /// There is no entry for the file, and [`MOST_ENTRIES`](ring_math::MOST_ENTRIES) stand.
     Full,
 }
 
@@ -24,6 +24,6 @@ pub enum Bury {
     Buried,
     /// A tombstone stands where nothing stood.
     Laid,
-    /// There is no entry for the file, and 4,096 stand.
+    /// There is no entry for the file, and [`MOST_ENTRIES`](ring_math::MOST_ENTRIES) stand.
     Full,
 }

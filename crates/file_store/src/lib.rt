@@ -1,12 +1,12 @@
 //! The store of a node: for each file that it knows, the bytes or a tombstone.
 //!
-//! A file is immutable, and a reclaimed one stays a tombstone for good. At most 4,096 entries stand.
+//! A file is immutable, and a reclaimed one stays a tombstone for good. At most [`MOST_ENTRIES`](ring_math::MOST_ENTRIES) entries stand.
 #![tactic(auto)]
 
 mod after;
 mod answer;
+mod arena;
 mod order;
-mod row;
 mod store;
 
 pub use after::Buried;

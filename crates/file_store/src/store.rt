@@ -1,26 +1,25 @@
 //! The store.
 
-ghost use Rattle.std.specs.Prelude.{◌≡◌, ◌≤◌, ◌<◌, ◌+◌, ◌&&◌, ◌||◌, not, ℕ, Bool, List, [], length, min, true, Some, None, IsTrue, IfOk, IfErr, OnOk, OnErr, option_copied, option_map, count_by, is_some, map, slice_index_or};
+ghost use Rattle.std.specs.Prelude.{◌≡◌, ◌≤◌, ◌<◌, ◌+◌, ◌&&◌, ◌||◌, not, ℕ, Bool, List, [], length, min, true, Some};
+ghost use Rattle.std.specs.Prelude.{None, IsTrue, IfOk, IfErr, OnOk, OnErr, option_copied, option_map, count_by, is_some, map, slice_index_or};
 ghost use Rattle.std.specs.List.{list_all};
+ghost use Rattle.ring_math.specs.Names.{Content};
 ghost use Rattle.ring_math.specs.Bytewise.{same_bytes};
 ghost use Rattle.ring_math.specs.Files.{slot_of, with_slot, has_entry, has_tomb, has_room, buried, buried_all, has_lists};
 ghost use Rattle.file_store.specs.Answers.{bytes_in, put_at, put_of, after_put, bury_of, after_bury, can_set, lays_any};
 ghost use Rattle.file_store.specs.Places.{place_of, is_rising, StandsAt, GoesInAt};
 
 use crate::answer::{Bury, Put};
+use crate::arena::Arena;
 use crate::order::{is_same, is_same_text};
-use crate::row::Row;
-use ring_math::{Bytes, FileId, FileIds, Held, OutOfMemory};
+use ring_math::{Bytes, FileId, FileIds, Held, MOST_ENTRIES, OutOfMemory};
 use std::alloc::Global;
 use std::marker::Model;
-
-/// The most entries that stand.
-pub(crate) const LIMIT: usize = 4096;
 
 /// Files and tombstones, by rising file identifier.
 #[derive(Drop)]
 pub struct FileStore {
-    row: Row,
+    arena: Arena,
 }
 
 impl Model for FileStore {
@@ -30,9 +29,9 @@ impl Model for FileStore {
 
     ghost Value = { Store };
 
-    ghost view = { λ a. a.row };
+    ghost view = { λ a. a.arena };
 
-    ghost invariant = { λ a. is_rising a.row.files ≡ true };
+    ghost invariant = { λ a. is_rising a.arena.files ≡ true };
 }
 
 impl FileStore {
@@ -41,18 +40,18 @@ impl FileStore {
         ensures { result.files ≡ [] }
     {
         FileStore {
-            row: Row::new(alloc),
+            arena: Arena::new(alloc),
         }
     }
 
     /// The number of entries, tombstones among them.
     pub fn entries(&self) -> usize
         ensures value { result ≡ length self.now.files }
-        ensures limit { length self.now.files ≤ 4096 }
+        ensures limit { length self.now.files ≤ MOST_ENTRIES }
         ensures within { length self.now.files ≤ self.now.room }
         ensures rising { is_rising self.now.files ≡ true }
     {
-        self.row.len()
+        self.arena.len()
     }
 
     /// The entry at a place, from 0, by rising file identifier.
@@ -60,7 +59,7 @@ impl FileStore {
         requires { place < length self.now.files }
         ensures { result.now ≡ slice_index_or self.now.files place result.now }
     {
-        self.row.at(place)
+        self.arena.at(place)
     }
 
     /// The first place whose file does not come before this one.
@@ -68,10 +67,10 @@ impl FileStore {
         ensures { result ≡ place_of self.now.files file.now }
     {
         let mut low = 0;
-        let mut high = self.row.len();
+        let mut high = self.arena.len();
         while low < high {
             let middle = low + (high - low) / 2;
-            if self.row.comes_before(middle, file) {
+            if self.arena.comes_before(middle, file) {
                 low = middle + 1;
             } else {
                 high = middle;
@@ -87,10 +86,10 @@ impl FileStore {
         ensures none { OnErr result (None ≡ slot_of self.now.files file.now) }
     {
         let place = self.place(file);
-        if place == self.row.len() {
+        if place == self.arena.len() {
             return Err(place);
         }
-        if is_same(&self.row.at(place).file, file) {
+        if is_same(&self.arena.at(place).file, file) {
             Ok(place)
         } else {
             Err(place)
@@ -104,7 +103,7 @@ impl FileStore {
         ensures none { OnErr result (None ≡ slot_of self.now.files file.now) }
     {
         match self.search(file) {
-            Ok(place) => Ok(&self.row.at(place).slot),
+            Ok(place) => Ok(&self.arena.at(place).slot),
             Err(place) => Err(place),
         }
     }
@@ -122,12 +121,12 @@ impl FileStore {
     /// Takes room for so many more entries, or as many as may still come: what goes in then takes no memory.
     pub fn reserve(&mut self, count: usize) -> Result<(), OutOfMemory>
         ensures files { self.new.files ≡ self.old.files }
-        ensures ok { OnOk result (min (length self.old.files + count) 4096 ≤ self.new.room) }
-        ensures err { OnErr result (self.old.room < min (length self.old.files + count) 4096) }
+        ensures ok { OnOk result (min (length self.old.files + count) MOST_ENTRIES ≤ self.new.room) }
+        ensures err { OnErr result (self.old.room < min (length self.old.files + count) MOST_ENTRIES) }
         ensures room { self.old.room ≤ self.new.room }
     {
-        let rest = LIMIT - self.row.len();
-        self.row.reserve(count.min(rest))
+        let rest = MOST_ENTRIES - self.arena.len();
+        self.arena.reserve(count.min(rest))
     }
 
     /// The file's entry is now this one. It takes no memory: room for a new entry was taken before.
@@ -137,7 +136,7 @@ impl FileStore {
         ensures room { self.old.room ≤ self.new.room }
     {
         match self.search(&file) {
-            Ok(place) => self.row.replace(place, slot),
+            Ok(place) => self.arena.replace(place, slot),
             Err(place) => self.insert(place, file, slot),
         }
     }
@@ -145,12 +144,12 @@ impl FileStore {
     /// Puts a new entry in at the place of its file, into room that was taken.
     fn insert(&mut self, place: usize, file: FileId, slot: Option<Bytes>)
         requires place { GoesInAt self.old.files file place }
-        requires limit { length self.old.files < 4096 }
+        requires limit { length self.old.files < MOST_ENTRIES }
         requires room { length self.old.files < self.old.room }
         ensures files { self.new.files ≡ with_slot self.old.files file slot }
         ensures room { self.old.room ≤ self.new.room }
     {
-        self.row.insert(place, Held { file, slot });
+        self.arena.insert(place, Held { file, slot });
     }
 
     /// The bytes of the file, and None exactly where no bytes are held, so also for a tombstone.
@@ -176,7 +175,7 @@ impl FileStore {
     {
         match self.seek(file) {
             Ok(slot) => answer_beside(slot, bytes),
-            Err(_) if self.entries() < LIMIT => Put::New,
+            Err(_) if self.entries() < MOST_ENTRIES => Put::New,
             Err(_) => Put::Full,
         }
     }
@@ -188,12 +187,12 @@ impl FileStore {
         match self.slot(file) {
             Some(None) => Bury::Already,
             Some(Some(_)) => Bury::Buried,
-            None if self.entries() < LIMIT => Bury::Laid,
+            None if self.entries() < MOST_ENTRIES => Bury::Laid,
             None => Bury::Full,
         }
     }
 
-    /// Puts the file, where it has no entry and fewer than 4,096 stand; in every other case nothing changes.
+    /// Puts the file, where it has no entry and fewer than [`MOST_ENTRIES`] stand; in every other case nothing changes.
     ///
     /// Memory can be refused only in the place of `New`, for the copy of the bytes or for the entry, and then the
     /// store is as before.
@@ -206,7 +205,7 @@ impl FileStore {
     {
         match self.seek(&file) {
             Ok(slot) => Ok(answer_beside(slot, bytes)),
-            Err(_) if self.entries() == LIMIT => Ok(Put::Full),
+            Err(_) if self.entries() == MOST_ENTRIES => Ok(Put::Full),
             Err(place) => {
                 let bytes = bytes.copy(alloc)?;
                 self.reserve(1)?;
@@ -216,7 +215,7 @@ impl FileStore {
         }
     }
 
-    /// A tombstone stands for the file from now on, unless it has no entry and 4,096 stand. Only `Buried` and `Laid`
+    /// A tombstone stands for the file from now on, unless it has no entry and [`MOST_ENTRIES`] stand. Only `Buried` and `Laid`
     /// change the store.
     ///
     /// Memory can be refused only in the place of `Laid`, where no room for the entry was taken before, and then the
@@ -245,11 +244,9 @@ impl FileStore {
         ensures after { self.new.files ≡ after_bury (bury_of self.old.files file) self.old.files file }
         ensures room { self.old.room ≤ self.new.room }
     {
-        // The row is opened, so that the order of its files is known.
-        let _row = &self.row;
-        match self.would_bury(&file) {
-            Bury::Buried | Bury::Laid => self.set(file, None),
-            Bury::Already | Bury::Full => {}
+        let has_room = self.entries() < MOST_ENTRIES;
+        if has_room || self.slot(&file).is_some() {
+            self.set(file, None);
         }
     }
 
@@ -260,7 +257,7 @@ impl FileStore {
         ensures refused { OnErr result (lays_any self.old.files tombs.now ≡ true) }
         ensures room { self.old.room ≤ self.new.room }
     {
-        let rest = LIMIT - self.entries();
+        let rest = MOST_ENTRIES - self.entries();
         if self.have_entries(tombs) {
             return Ok(());
         }
@@ -296,8 +293,8 @@ impl FileStore {
         ensures { result ≡ count_by (λ h. is_some h.slot) self.now.files }
     {
         let mut count = 0;
-        for place in 0..self.row.len() {
-            if self.row.at(place).slot.is_some() {
+        for place in 0..self.arena.len() {
+            if self.arena.at(place).slot.is_some() {
                 count += 1;
             }
         }
@@ -308,9 +305,9 @@ impl FileStore {
     pub fn files(&self, alloc: Global) -> Result<FileIds, OutOfMemory>
         ensures { IfOk result (λ list. list.files ≡ map (λ h. h.file) self.now.files) }
     {
-        let mut files = FileIds::with_room(alloc, self.row.len())?;
-        for place in 0..self.row.len() {
-            files.push(self.row.at(place).file);
+        let mut files = FileIds::with_room(alloc, self.arena.len())?;
+        for place in 0..self.arena.len() {
+            files.push(self.arena.at(place).file);
         }
         Ok(files)
     }
@@ -319,8 +316,8 @@ impl FileStore {
     pub fn copy(&self, alloc: Global) -> Result<FileStore, OutOfMemory>
         ensures { IfOk result (λ copy. copy.files ≡ self.now.files) }
     {
-        let row = self.row.copy(alloc)?;
-        Ok(FileStore { row })
+        let arena = self.arena.copy(alloc)?;
+        Ok(FileStore { arena })
     }
 
     /// Whether each file of the manifest has an entry, and each of the tombs is a tombstone.
@@ -332,7 +329,7 @@ impl FileStore {
 
     /// The same once bytes are put for this file.
     pub fn has_lists_with(&self, file: &FileId, manifest: &[FileId], tombs: &[FileId]) -> bool
-        ensures { (bytes : List ℕ) → result ≡ has_lists (with_slot self.now.files file.now (Some bytes)) manifest.now tombs.now }
+        ensures { (bytes : Content) → result ≡ has_lists (with_slot self.now.files file.now (Some bytes)) manifest.now tombs.now }
     {
         self.have_entries_with(file, manifest) && self.are_gone_with(file, tombs)
     }

@@ -1,7 +1,9 @@
 //! Links, gates, and what requests for leases, releases and confirmations make of them.
 
-ghost use Rattle.std.specs.Prelude.{◌≡◌};
-ghost use Rattle.overlay_rules.specs.Gates.{is_of, is_older, is_gate_of, unless, is_again, busy_with, blocked_by, fits, verdict, gate_on, cleared_links, gated_links, asked_links, released_links, holds_gate, confirmed_links};
+ghost use Rattle.std.specs.Prelude.{◌≡◌, if◌then◌else◌, None};
+ghost use Rattle.overlay_rules.specs.Gates.{is_older, is_gate_of, unless, asked_for, is_again, busy_with, blocked_by, fits, verdict, cleared_links};
+ghost use Rattle.overlay_rules.specs.Gates.{gated_links, asked_links, released_links, holds_gate, confirmed_links};
+ghost use Rattle.gate_core.specs.Older.{is_older_gate};
 ghost use Rattle.gate_core.specs.Reached.{joiner_in, reach_of};
 
 use coverage::Reach;
@@ -52,46 +54,34 @@ impl Links {
     /// Else `Grant` where the joiner stands strictly between the two, a side is asked for, and the links on the sides
     /// asked for are those two. Else `Moved`, with the links as they are.
     pub fn weigh(&self, me: Id, joiner: Id, attempt: u32, left: Id, right: Id) -> Verdict
-        ensures { result ≡ verdict self.now me joiner attempt left right }
+        ensures { result ≡ verdict self.now me (asked_for joiner attempt left right) }
     {
-        let request = Gate {
-            joiner,
-            attempt,
-            left,
-            right,
-        };
-        if self.has_given(me, &request) {
-            return Verdict::Again;
-        }
-        match self.blocker(me, &request) {
-            Some(joiner) => Verdict::Busy { joiner },
-            None if self.has_place(me, &request) => Verdict::Grant,
-            None => Verdict::Moved {
-                left: self.left,
-                right: self.right,
-            },
-        }
+        self.verdict(me, &asked_for(joiner, attempt, left, right))
     }
 
     /// Answers as `weigh`. Unless that is `Again`, the joiner's gates of older attempts are taken away, on both sides and
     /// whatever the answer; on `Grant` each side that is asked for then gets this gate.
     pub fn ask(&mut self, me: Id, joiner: Id, attempt: u32, left: Id, right: Id) -> Verdict
-        ensures answer { result ≡ verdict self.old me joiner attempt left right }
-        ensures links { self.new ≡ asked_links self.old me joiner attempt left right result }
+        ensures answer { result ≡ verdict self.old me (asked_for joiner attempt left right) }
+        ensures links { self.new ≡ asked_links self.old me (asked_for joiner attempt left right) result }
     {
-        let verdict = self.weigh(me, joiner, attempt, left, right);
+        self.ask_for(me, &asked_for(joiner, attempt, left, right))
+    }
+
+    /// The same, by the gate that the request asks for.
+    pub fn ask_for(&mut self, me: Id, gate: &Gate) -> Verdict
+        ensures answer { result ≡ verdict self.old me gate.now }
+        ensures links { self.new ≡ asked_links self.old me gate.now result }
+    {
+        let verdict = self.verdict(me, gate);
         match verdict {
             Verdict::Again => {}
-            Verdict::Busy { .. } | Verdict::Moved { .. } => self.clear_older(joiner, attempt),
+            Verdict::Busy { .. } | Verdict::Moved { .. } => {
+                self.clear_older(gate.joiner, gate.attempt);
+            }
             Verdict::Grant => {
-                self.clear_older(joiner, attempt);
-                let gate = Gate {
-                    joiner,
-                    attempt,
-                    left,
-                    right,
-                };
-                self.open(me, &gate);
+                self.clear_older(gate.joiner, gate.attempt);
+                self.open(me, gate);
             }
         }
         verdict
@@ -102,10 +92,11 @@ impl Links {
         ensures answer { result ≡ holds_gate self.old joiner attempt }
         ensures links { self.new ≡ released_links self.old joiner attempt }
     {
-        let held = self.holds(joiner, attempt);
-        self.left_gate = without(&self.left_gate, joiner, attempt);
-        self.right_gate = without(&self.right_gate, joiner, attempt);
-        held
+        let on_left = is_held_by(&self.left_gate, joiner, attempt);
+        let on_right = is_held_by(&self.right_gate, joiner, attempt);
+        take_away(&mut self.left_gate, on_left);
+        take_away(&mut self.right_gate, on_right);
+        on_left || on_right
     }
 
     /// The joiner is ready: it becomes the link of each side whose gate is its with this attempt, and that gate is taken
@@ -123,57 +114,68 @@ impl Links {
         self.release(joiner, attempt)
     }
 
-    /// Whether some gate is this joiner's with this attempt.
-    fn holds(&self, joiner: Id, attempt: u32) -> bool
-        ensures { result ≡ holds_gate self.now joiner attempt }
+    /// What `me` says to the request for this gate.
+    fn verdict(&self, me: Id, gate: &Gate) -> Verdict
+        ensures { result ≡ verdict self.now me gate.now }
     {
-        is_held_by(&self.left_gate, joiner, attempt)
-            || is_held_by(&self.right_gate, joiner, attempt)
+        if self.has_given(me, gate) {
+            return Verdict::Again;
+        }
+        match self.blocker(me, gate) {
+            Some(joiner) => Verdict::Busy { joiner },
+            None if self.has_place(me, gate) => Verdict::Grant,
+            None => Verdict::Moved {
+                left: self.left,
+                right: self.right,
+            },
+        }
     }
 
-    /// Whether a side is asked for, and each such side has this request's gate already.
-    fn has_given(&self, me: Id, request: &Gate) -> bool
-        ensures { result ≡ is_again self.now me request.now.joiner request.now.attempt request.now.left request.now.right }
+    /// Whether a side is asked for, and each such side has the gate already.
+    fn has_given(&self, me: Id, gate: &Gate) -> bool
+        ensures { result ≡ is_again self.now me gate.now }
     {
-        let on_right = me == request.left;
-        let on_left = me == request.right;
+        let on_right = me == gate.left;
+        let on_left = me == gate.right;
         (on_right || on_left)
-            && (!on_right || is_held_by(&self.right_gate, request.joiner, request.attempt))
-            && (!on_left || is_held_by(&self.left_gate, request.joiner, request.attempt))
+            && (!on_right || is_held_by(&self.right_gate, gate.joiner, gate.attempt))
+            && (!on_left || is_held_by(&self.left_gate, gate.joiner, gate.attempt))
     }
 
-    /// The joiner of a gate that stands in the way of this request, on the right first.
-    fn blocker(&self, me: Id, request: &Gate) -> Option<Id>
-        ensures { result ≡ blocked_by self.now me request.now.joiner request.now.attempt request.now.left request.now.right }
+    /// The joiner of a gate that stands in the way of this one, on the right first.
+    fn blocker(&self, me: Id, gate: &Gate) -> Option<Id>
+        ensures { result ≡ blocked_by self.now me gate.now }
     {
-        let right_gate = without_older(&self.right_gate, request.joiner, request.attempt);
-        let left_gate = without_older(&self.left_gate, request.joiner, request.attempt);
-        busy(me == request.left, &right_gate).or(busy(me == request.right, &left_gate))
+        let on_right = busy(me == gate.left, &self.right_gate, gate);
+        let on_left = busy(me == gate.right, &self.left_gate, gate);
+        on_right.or(on_left)
     }
 
-    /// Whether the joiner may come to stand where the request says.
-    fn has_place(&self, me: Id, request: &Gate) -> bool
-        ensures { result ≡ fits self.now me request.now.joiner request.now.left request.now.right }
+    /// Whether the joiner may come to stand where the gate says.
+    fn has_place(&self, me: Id, gate: &Gate) -> bool
+        ensures { result ≡ fits self.now me gate.now }
     {
-        let on_right = me == request.left;
-        let on_left = me == request.right;
-        between(request.left, request.joiner, request.right)
+        let on_right = me == gate.left;
+        let on_left = me == gate.right;
+        between(gate.left, gate.joiner, gate.right)
             && (on_right || on_left)
-            && (!on_right || self.right == request.right)
-            && (!on_left || self.left == request.left)
+            && (!on_right || self.right == gate.right)
+            && (!on_left || self.left == gate.left)
     }
 
     /// Takes away the joiner's gates of older attempts.
     fn clear_older(&mut self, joiner: Id, attempt: u32)
         ensures { self.new ≡ cleared_links self.old joiner attempt }
     {
-        self.left_gate = without_older(&self.left_gate, joiner, attempt);
-        self.right_gate = without_older(&self.right_gate, joiner, attempt);
+        let on_left = is_older(&self.left_gate, joiner, attempt);
+        let on_right = is_older(&self.right_gate, joiner, attempt);
+        take_away(&mut self.left_gate, on_left);
+        take_away(&mut self.right_gate, on_right);
     }
 
     /// This gate on each side that it asks for.
     fn open(&mut self, me: Id, gate: &Gate)
-        ensures { self.new ≡ gated_links self.old me gate.now.joiner gate.now.attempt gate.now.left gate.now.right }
+        ensures { self.new ≡ gated_links self.old me gate.now }
     {
         if me == gate.right {
             self.left_gate = Some(*gate);
@@ -181,6 +183,18 @@ impl Links {
         if me == gate.left {
             self.right_gate = Some(*gate);
         }
+    }
+}
+
+/// The gate that a request for a lease asks for.
+fn asked_for(joiner: Id, attempt: u32, left: Id, right: Id) -> Gate
+    ensures { result ≡ asked_for joiner attempt left right }
+{
+    Gate {
+        joiner,
+        attempt,
+        left,
+        right,
     }
 }
 
@@ -203,32 +217,31 @@ fn is_held_by(gate: &Option<Gate>, joiner: Id, attempt: u32) -> bool
     }
 }
 
-/// The gate, unless it is this joiner's with this attempt.
-fn without(gate: &Option<Gate>, joiner: Id, attempt: u32) -> Option<Gate>
-    ensures { result ≡ unless (is_of joiner attempt) gate.now }
+/// Whether the gate is this joiner's with an older attempt.
+fn is_older(gate: &Option<Gate>, joiner: Id, attempt: u32) -> bool
+    ensures { result ≡ is_older_gate joiner attempt gate.now }
 {
     match gate {
-        Some(held) if held.joiner == joiner && held.attempt == attempt => None,
-        _ => *gate,
+        Some(gate) => gate.joiner == joiner && gate.attempt < attempt,
+        None => false,
     }
 }
 
-/// The gate, unless it is this joiner's with an older attempt.
-fn without_older(gate: &Option<Gate>, joiner: Id, attempt: u32) -> Option<Gate>
-    ensures { result ≡ unless (is_older joiner attempt) gate.now }
+/// Takes the gate away where it is to go.
+fn take_away(gate: &mut Option<Gate>, goes: bool)
+    ensures { gate.new ≡ (if goes then None else gate.old) }
 {
-    match gate {
-        Some(held) if held.joiner == joiner && held.attempt < attempt => None,
-        _ => *gate,
+    if goes {
+        *gate = None;
     }
 }
 
-/// The gate's joiner, where the side is asked for.
-fn busy(is_asked: bool, gate: &Option<Gate>) -> Option<Id>
-    ensures { result ≡ busy_with is_asked gate.now }
+/// The joiner of a side's gate, where the side is asked for and the gate is not an older one of the same joiner.
+fn busy(is_asked: bool, held: &Option<Gate>, gate: &Gate) -> Option<Id>
+    ensures { result ≡ busy_with is_asked (unless (is_older gate.now.joiner gate.now.attempt) held.now) }
 {
-    match gate {
-        Some(gate) if is_asked => Some(gate.joiner),
+    match held {
+        Some(other) if is_asked && !is_older(held, gate.joiner, gate.attempt) => Some(other.joiner),
         _ => None,
     }
 }

@@ -24,7 +24,13 @@ fn one_joiner_on_each_side(rt: HostRuntime) {
     assert_eq!(rt; links.ask(me, at(0x30), 1, me, at(0x90)), Verdict::Again);
     let busy = Verdict::Busy { joiner: at(0x30) };
     assert_eq!(rt; links.ask(me, at(0x50), 1, me, at(0x90)), busy);
-    assert_eq!(rt; links.ask(me, at(0xe0), 1, at(0x90), me), Verdict::Grant);
+    let gate = Gate {
+        joiner: at(0xe0),
+        attempt: 1,
+        left: at(0x90),
+        right: me,
+    };
+    assert_eq!(rt; links.ask_for(me, &gate), Verdict::Grant);
     let reach = links.reach(me);
     assert_eq!(rt; reach.left_joiner, Some(at(0xe0)));
     assert_eq!(rt; reach.right_joiner, Some(at(0x30)));

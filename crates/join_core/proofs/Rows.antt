@@ -1,12 +1,15 @@
 -- Each row of a joiner is what its call answers: by cases on the phase, and on the tests of the row.
-use Rattle.std.proofs.Common.{◌≡◌, ℕ, Bool, true, false, ◌&&◌, ◌||◌, ◌==◌, nat_lt, if◌then◌else◌, Option, Some, None, is_none, is_some, List, [], ◌∷◌, refl, ◌∙◌, ap, arith}
+use Rattle.std.proofs.Common.{◌≡◌, ℕ, Bool, true, false, ◌&&◌, ◌||◌, ◌==◌, nat_lt, if◌then◌else◌, Option, Some, None, is_none, is_some, List, [], ◌∷◌, refl}
+use Rattle.std.proofs.Common.{◌∙◌, ap, arith}
 use Rattle.std.specs.List.{list_any}
 use Rattle.std.proofs.lemmas.Bool.Decides.{nat_tests}
 use Rattle.ring_math.specs.Sides.{leaves}
 use Rattle.join_core.specs.declared.steps.GrantStep.{GrantStep}
 use Rattle.coverage.specs.GapFiles.{Lists}
+use Rattle.wire_msg.specs.declared.limits.TheConstants.{LAST_ATTEMPT}
 use Rattle.wire_msg.specs.declared.reply.Why.{Why}
-use Rattle.overlay_rules.specs.Joining.{join_in, give_up_in, refuse_in, join_reply_in, probing, probe_reply_in, first_left, first_right, learnt_of, deny_in, grant_in, older_grant, kept_first, with_grant, is_unanswered}
+use Rattle.overlay_rules.specs.Joining.{join_in, give_up_in, refuse_in, join_reply_in, probing, probe_reply_in, first_left, first_right, learnt_of, deny_in}
+use Rattle.overlay_rules.specs.Joining.{grant_in, older_grant, kept_first, with_grant, is_unanswered}
 use Rattle.overlay_rules.specs.Outcome.{Outcome, nothing}
 use Rattle.overlay_rules.specs.ReadyTest.{ready_test_in}
 use Rattle.overlay_rules.specs.State.{State, Phase}
@@ -27,7 +30,7 @@ by_test f true x y = refl
 by_test f false x y = refl
 
 pub begin_row : (s : State) (number via : ℕ) (p : Phase) → join_in s number via p ≡ begun_by s number via (begin_of (joiner_of p))
-begin_row s number via (phase.Waiting a) = by_test (begun_by s number via) (a == 4294967295) begin.Spent (begin.Started a)
+begin_row s number via (phase.Waiting a) = by_test (begun_by s number via) (a == LAST_ATTEMPT) begin.Spent (begin.Started a)
 begin_row s number via (phase.Asking a n) = refl
 begin_row s number via (phase.Probing a n probed) = refl
 begin_row s number via (phase.Leasing a n l r from_left from_right) = refl
@@ -70,7 +73,8 @@ older_row s from a b lists p = by_test (granted_by s from a lists p) (nat_lt a b
 -- an attempt is not below itself
 timely : {A : Type 0} (a b : ℕ) (x y z : A) → (if a == b then x else (if nat_lt a b then y else z)) ≡ (if nat_lt a b then y else (if a == b then x else z))
 timely a b x y z = by_both (a == b) (nat_lt a b) (grind (arith, nat_tests)) where
-  by_both : (same below : Bool) → (same ≡ true → below ≡ false) → (if same then x else (if below then y else z)) ≡ (if below then y else (if same then x else z))
+  by_both : (same below : Bool) → (same ≡ true → below ≡ false) →
+      (if same then x else (if below then y else z)) ≡ (if below then y else (if same then x else z))
   by_both true true apart = let never = apart refl in cc
   by_both true false apart = refl
   by_both false true apart = refl
@@ -127,7 +131,8 @@ is_some-kept false None new = refl
 
 -- the marks stand for the lists that are kept
 pub marks_row : (s : State) (from : ℕ) (lists : Lists) (a n l r : ℕ) (from_left from_right : Option Lists) →
-    joiner_of (with_grant s from lists a n l r from_left from_right).phase ≡ marked (joiner_of (phase.Leasing a n l r from_left from_right)) from
+    joiner_of (with_grant s from lists (phase.Leasing a n l r from_left from_right)).phase ≡ marked
+    (joiner_of (phase.Leasing a n l r from_left from_right)) from
 marks_row s from lists a n l r from_left from_right =
     rw (is_some-kept (from == l) from_left lists, is_some-kept (from == r) from_right lists) refl
 
@@ -141,7 +146,8 @@ timely_row s from a b lists p x step e =
     ∙ ap (λ o. if nat_lt a b then gives grant.Older else o) (by_test gives (a == b) step grant.Dropped)
     ∙ by_test gives (nat_lt a b) grant.Older (if a == b then step else grant.Dropped)
 
-pub grant_row : (s : State) (from a : ℕ) (lists : Lists) (p : Phase) → grant_in s from a lists p ≡ granted_by s from a lists p (grant_step_of (joiner_of p) from a)
+pub grant_row : (s : State) (from a : ℕ) (lists : Lists) (p : Phase) →
+    grant_in s from a lists p ≡ granted_by s from a lists p (grant_step_of (joiner_of p) from a)
 grant_row s from a lists (phase.Leasing b m l r from_left from_right) =
     let p = phase.Leasing b m l r from_left from_right in
     let side = (from == l) || (from == r) in

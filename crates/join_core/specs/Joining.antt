@@ -1,5 +1,7 @@
 -- How a joiner is seen of the phase of a node, and what it says to a Join command.
-use Rattle.std.specs.Prelude.{ℕ, ◌==◌, if◌then◌else◌, is_some}
+use Rattle.std.specs.Prelude.{◌==◌, if◌then◌else◌, is_some}
+use Rattle.ring_math.specs.Names.{Attempt, Number}
+use Rattle.wire_msg.specs.declared.limits.TheConstants.{LAST_ATTEMPT}
 use Rattle.overlay_rules.specs.State.{Phase}
 use Rattle.overlay_rules.specs.State as phase
 use Rattle.join_core.specs.declared.joiner.Joiner.{Joiner}
@@ -16,7 +18,7 @@ joiner_of (phase.Leasing a n l r from_left from_right) = Leasing a n l r (is_som
 joiner_of (phase.Ready a l r) = Done a
 
 -- the attempt of the join under way, of the next one, or of the last one
-abbrev pub attempt_of : Joiner → ℕ
+abbrev pub attempt_of : Joiner → Attempt
 attempt_of (Waiting a) = a
 attempt_of (Asking a n) = a
 attempt_of (Probing a n probed) = a
@@ -24,7 +26,7 @@ attempt_of (Leasing a n l r from_left from_right) = a
 attempt_of (Done a) = a
 
 -- the number of the Join command, where a join is under way
-abbrev pub number_of : Joiner → ℕ
+abbrev pub number_of : Joiner → Number
 number_of (Asking a n) = n
 number_of (Probing a n probed) = n
 number_of (Leasing a n l r from_left from_right) = n
@@ -33,13 +35,13 @@ number_of (Done a) = 0
 
 -- Join; the last attempt can't be begun
 abbrev pub begin_of : Joiner → Begin
-begin_of (Waiting a) = if a == 4294967295 then Spent else Started a
+begin_of (Waiting a) = if a == LAST_ATTEMPT then Spent else Started a
 begin_of (Asking a n) = Already
 begin_of (Probing a n probed) = Already
 begin_of (Leasing a n l r from_left from_right) = Already
 begin_of (Done a) = Already
 
-abbrev pub after_begin : Begin → Joiner → ℕ → Joiner
+abbrev pub after_begin : Begin → Joiner → Number → Joiner
 after_begin (Started a) j number = Asking a number
 after_begin Already j number = j
 after_begin Spent j number = j

@@ -1,5 +1,6 @@
 -- The joiner has asked its neighbours for leases: their grants, and when it has both.
-use Rattle.std.specs.Prelude.{ℕ, Bool, false, ◌&&◌, ◌||◌, ◌==◌, nat_lt, if◌then◌else◌, Option, Some, None}
+use Rattle.std.specs.Prelude.{Bool, false, ◌&&◌, ◌||◌, ◌==◌, nat_lt, if◌then◌else◌, Option, Some, None}
+use Rattle.ring_math.specs.Names.{Id, Attempt}
 use Rattle.join_core.specs.declared.joiner.Joiner.{Joiner}
 use Rattle.join_core.specs.declared.joiner.Joiner.TheVariants.{Waiting, Asking, Probing, Leasing, Done}
 use Rattle.join_core.specs.declared.steps.Finished.{Finished}
@@ -8,7 +9,7 @@ use Rattle.join_core.specs.declared.steps.GrantStep.TheVariants.{Older, Settled,
 use Rattle.join_core.specs.Joining.{attempt_of}
 
 -- Grant of an attempt that is not past
-abbrev pub timely_grant : Joiner → ℕ → ℕ → GrantStep
+abbrev pub timely_grant : Joiner → Id → Attempt → GrantStep
 timely_grant (Leasing b n l r from_left from_right) from a = if (a == b) && ((from == l) || (from == r)) then Noted else Dropped
 timely_grant (Done b) from a = if a == b then Settled else Dropped
 timely_grant (Waiting b) from a = Dropped
@@ -16,18 +17,18 @@ timely_grant (Asking b n) from a = Dropped
 timely_grant (Probing b n probed) from a = Dropped
 
 -- Grant
-abbrev pub grant_step_of : Joiner → ℕ → ℕ → GrantStep
+abbrev pub grant_step_of : Joiner → Id → Attempt → GrantStep
 grant_step_of j from a = if nat_lt a (attempt_of j) then Older else timely_grant j from a
 
 -- the mark of each side that the sender is
-abbrev pub marked : Joiner → ℕ → Joiner
+abbrev pub marked : Joiner → Id → Joiner
 marked (Leasing b n l r from_left from_right) from = Leasing b n l r (from_left || (from == l)) (from_right || (from == r))
 marked (Done b) from = Done b
 marked (Waiting b) from = Waiting b
 marked (Asking b n) from = Asking b n
 marked (Probing b n probed) from = Probing b n probed
 
-abbrev pub after_grant : GrantStep → ℕ → Joiner → Joiner
+abbrev pub after_grant : GrantStep → Id → Joiner → Joiner
 after_grant Noted from j = marked j from
 after_grant Older from j = j
 after_grant Settled from j = j

@@ -2,4 +2,5 @@ pub mod Joining
 pub mod Probes
 pub mod Leases
 pub mod Ends
+pub mod Awaited
 pub mod Outcomes

@@ -1,5 +1,6 @@
 -- What a step does about a join, by what the joiner's calls answer: a node has only to put these together.
-use Rattle.std.specs.Prelude.{ℕ, ◌+◌, Bool, false, ◌&&◌, ◌||◌, ◌==◌, if◌then◌else◌, Option, Some, None, is_none, List, [], ◌∷◌, map}
+use Rattle.std.specs.Prelude.{◌+◌, Bool, false, ◌&&◌, ◌||◌, ◌==◌, if◌then◌else◌, Option, Some, None, is_none, List, [], ◌∷◌, map}
+use Rattle.ring_math.specs.Names.{Id, Attempt, Number}
 use Rattle.overlay_rules.specs.Joining.{unanswered, stopped, given_up, idle, with_grant}
 use Rattle.overlay_rules.specs.Outcome.{Outcome, Sent, nothing, becomes, sent, to_both, to_each}
 use Rattle.overlay_rules.specs.ReadyTest.{has_all, readied, ready_test}
@@ -24,20 +25,20 @@ use Rattle.join_core.specs.Joining.{attempt_of, number_of}
 use Rattle.join_core.specs.Probes.{probed_of, probed_with}
 
 -- Join
-abbrev pub begun_by : State → ℕ → ℕ → Begin → Outcome
+abbrev pub begun_by : State → Number → Id → Begin → Outcome
 begun_by s number via (begin.Started a) = becomes (record s { phase = phase.Asking a number }) (sent via (JoinRequest s.me a 0) ∷ []) []
 begun_by s number via begin.Already = stopped s number own.Already
 begun_by s number via begin.Spent = stopped s number own.Spent
 
 -- JoinReply, with what is known once its members are learnt
-abbrev pub replied_by : State → List ℕ → Joiner → Option (List ℕ) → Outcome
+abbrev pub replied_by : State → List Id → Joiner → Option (List Id) → Outcome
 replied_by s known j (Some probes) =
     becomes (record s { phase = phase.Probing (attempt_of j) (number_of j) (map unanswered probes); known = known })
     (to_each probes (Probe (attempt_of j))) []
 replied_by s known j None = nothing s
 
 -- ProbeReply, with what is known once its members are learnt
-abbrev pub probed_by : State → ℕ → List ℕ → Joiner → ProbeStep → Outcome
+abbrev pub probed_by : State → Id → List Id → Joiner → ProbeStep → Outcome
 probed_by s from known j (probe.Probe more) =
     becomes (record s { phase = phase.Probing (attempt_of j) (number_of j) (probed_with (probed_of j) from more); known = known })
     (to_each more (Probe (attempt_of j))) []
@@ -46,17 +47,17 @@ probed_by s from known j (probe.Lease a l r) =
 probed_by s from known j probe.Dropped = nothing s
 
 -- the lists of a grant are kept on each side that has none; a grant that comes again changes nothing
-abbrev pub noted_in : State → ℕ → Lists → Phase → Outcome
+abbrev pub noted_in : State → Id → Lists → Phase → Outcome
 noted_in s from lists (phase.Leasing a n l r from_left from_right) =
     if ((from == l) && is_none from_left) || ((from == r) && is_none from_right)
-    then ready_test (with_grant s from lists a n l r from_left from_right) else nothing s
+    then ready_test (with_grant s from lists (phase.Leasing a n l r from_left from_right)) else nothing s
 noted_in s from lists (phase.Waiting a) = nothing s
 noted_in s from lists (phase.Asking a n) = nothing s
 noted_in s from lists (phase.Probing a n probed) = nothing s
 noted_in s from lists (phase.Ready a l r) = nothing s
 
 -- Grant
-abbrev pub granted_by : State → ℕ → ℕ → Lists → Phase → GrantStep → Outcome
+abbrev pub granted_by : State → Id → Attempt → Lists → Phase → GrantStep → Outcome
 granted_by s from a lists p grant.Older = becomes s (sent from (Release a) ∷ []) []
 granted_by s from a lists p grant.Settled = becomes s (sent from (Confirm a) ∷ []) []
 granted_by s from a lists p grant.Noted = noted_in s from lists p
@@ -78,18 +79,18 @@ finished_by s p (Some f) = if has_both s p then readied s f.attempt f.number f.l
 finished_by s p None = nothing s
 
 -- those who were asked for a lease are told that it is not wanted
-abbrev pub released : ℕ → Option (ℕ × ℕ) → List Sent
+abbrev pub released : Attempt → Option (Id × Id) → List Sent
 released a (Some neighbours) = to_both neighbours.0 neighbours.1 (Release a)
 released a None = []
 
 -- JoinRefuse and Deny, with what is known then
-abbrev pub ended_by : State → List ℕ → ℕ → Why → Option Halted → Outcome
+abbrev pub ended_by : State → List Id → Id → Why → Option Halted → Outcome
 ended_by s known from w (Some h) =
     becomes (record s { phase = phase.Waiting (h.attempt + 1); known = known }) (released h.attempt h.neighbours)
     (note.Closed h.number (answer.Denied from w) ∷ [])
 ended_by s known from w None = nothing s
 
 -- GiveUp
-abbrev pub given_up_by : State → ℕ → Option Halted → Outcome
+abbrev pub given_up_by : State → Number → Option Halted → Outcome
 given_up_by s n (Some h) = given_up s n h.attempt h.number (released h.attempt h.neighbours)
 given_up_by s n None = idle s n

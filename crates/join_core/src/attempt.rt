@@ -3,8 +3,9 @@
 ghost use Rattle.std.specs.Prelude.{◌≡◌, ◌<◌, ◌+◌, ◌==◌, if◌then◌else◌, Some, None};
 
 use std::marker::Model;
+use wire_msg::LAST_ATTEMPT;
 
-/// The number of an attempt that can be begun: any below 4,294,967,295, so that there is one after it.
+/// The number of an attempt that can be begun: any below [`LAST_ATTEMPT`], so that there is one after it.
 #[derive(Clone, Copy, Debug, PartialEq, Eq)]
 pub struct Attempt {
     number: u32,
@@ -12,22 +13,23 @@ pub struct Attempt {
 
 impl Model for Attempt {
     ghost use Rattle.std.specs.Prelude.{ℕ, ◌<◌};
+    ghost use Rattle.wire_msg.specs.declared.limits.TheConstants.{LAST_ATTEMPT};
 
     ghost Value = { ℕ };
 
     ghost view = { λ a. a.number };
 
-    ghost invariant = { λ a. a.number < 4294967295 };
+    ghost invariant = { λ a. a.number < LAST_ATTEMPT };
 
     ghost inverse = { λ n. record { number = n } };
 }
 
 impl Attempt {
-    /// The attempt with this number, None exactly for 4,294,967,295.
+    /// The attempt with this number, None exactly for [`LAST_ATTEMPT`].
     pub fn new(number: u32) -> Option<Attempt>
-        ensures { result ≡ (if number == 4294967295 then None else Some number) }
+        ensures { result ≡ (if number == LAST_ATTEMPT then None else Some number) }
     {
-        if number == u32::MAX {
+        if number == LAST_ATTEMPT {
             None
         } else {
             Some(Attempt { number })
@@ -36,7 +38,7 @@ impl Attempt {
 
     pub fn get(&self) -> u32
         ensures value { result ≡ self.now }
-        ensures limit { result < 4294967295 }
+        ensures limit { result < LAST_ATTEMPT }
     {
         self.number
     }

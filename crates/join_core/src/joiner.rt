@@ -1,6 +1,7 @@
 //! The phases of a join.
 
-ghost use Rattle.std.specs.Prelude.{◌≡◌, ◌<◌, IfOk, OnErr, IfSome};
+ghost use Rattle.std.specs.Prelude.{◌≡◌, ◌<◌, IfOk, OnErr, IfSome, None};
+ghost use Rattle.join_core.specs.Awaited.{is_asking, is_awaited};
 ghost use Rattle.join_core.specs.Joining.{attempt_of, begin_of, after_begin};
 ghost use Rattle.join_core.specs.Probes.{reply_of, after_reply, probe_step_of, after_probe_reply};
 ghost use Rattle.join_core.specs.Leases.{grant_step_of, timely_grant, marked, after_grant, is_granted, finished_of, after_finish};
@@ -11,6 +12,7 @@ use crate::probed::Probed;
 use crate::steps::{Begin, Finished, GrantStep, Halted, ProbeStep};
 use ring_math::{Id, Ids, OutOfMemory};
 use std::alloc::Global;
+use wire_msg::LAST_ATTEMPT;
 
 /// How far a node is in joining. The number is that of the Join command.
 #[derive(Drop)]
@@ -46,7 +48,7 @@ pub enum Joiner {
 }
 
 impl Joiner {
-    /// A Join command with this number. `Spent` exactly where it is Waiting with attempt 4,294,967,295, `Already` exactly
+    /// A Join command with this number. `Spent` exactly where it is Waiting with the last attempt, `Already` exactly
     /// where it is not Waiting; nothing changes then.
     pub fn begin(&mut self, number: u64) -> Begin
         ensures answer { result ≡ begin_of self.old }
@@ -68,7 +70,8 @@ impl Joiner {
     }
 
     /// The reply to its request, with the node's leaves once its members were learnt: the leaves, each of which is to be
-    /// probed. None exactly where it is not Asking with that attempt or there is no leaf; nothing changes then.
+    /// probed. None exactly where it is not Asking with that attempt or there is no leaf; nothing changes then. Memory can be
+    /// refused only in the place of another answer.
     pub fn on_reply(
         &mut self,
         alloc: Global,
@@ -77,6 +80,7 @@ impl Joiner {
     ) -> Result<Option<Ids>, OutOfMemory>
         ensures answer { IfOk result (λ probes. probes ≡ reply_of self.old attempt leafs.now) }
         ensures joiner { IfOk result (λ probes. self.new ≡ after_reply probes self.old) }
+        ensures refused { OnErr result (reply_of self.old attempt leafs.now ≡ None → ⊥) }
         ensures as_before { OnErr result (self.new ≡ self.old) }
     {
         match self {
@@ -99,7 +103,8 @@ impl Joiner {
 
     /// The reply to a probe, with the node's leaves, its first left and its first right once its members were learnt.
     /// `Dropped` exactly where it is not Probing with that attempt and the sender probed and unanswered; nothing changes
-    /// then. `Lease` where each has answered afterwards, else `Probe` with the leaves that were not probed yet.
+    /// then. `Lease` where each has answered afterwards, else `Probe` with the leaves that were not probed yet. Memory can
+    /// be refused only in the place of these two.
     pub fn on_probe_reply(
         &mut self,
         alloc: Global,
@@ -111,6 +116,7 @@ impl Joiner {
     ) -> Result<ProbeStep, OutOfMemory>
         ensures answer { IfOk result (λ step. step ≡ probe_step_of self.old sender attempt leafs.now left right) }
         ensures joiner { IfOk result (λ step. self.new ≡ after_probe_reply step sender self.old) }
+        ensures refused { OnErr result (probe_step_of self.old sender attempt leafs.now left right ≡ ProbeStep.Dropped → ⊥) }
         ensures as_before { OnErr result (self.new ≡ self.old) }
     {
         match self {
@@ -172,6 +178,30 @@ impl Joiner {
             }
             Joiner::Done { attempt: own } if *own == attempt => GrantStep::Settled,
             _ => GrantStep::Dropped,
+        }
+    }
+
+    /// Whether a reply to a request with this attempt is awaited.
+    pub fn is_asking(&self, attempt: u32) -> bool
+        ensures { result ≡ is_asking self.now attempt }
+    {
+        match self {
+            Joiner::Asking { attempt: own, .. } => attempt == own.get(),
+            _ => false,
+        }
+    }
+
+    /// Whether an answer of this node to a probe with this attempt is awaited.
+    pub fn awaits(&self, sender: Id, attempt: u32) -> bool
+        ensures { result ≡ is_awaited self.now sender attempt }
+    {
+        match self {
+            Joiner::Probing {
+                attempt: own,
+                probed,
+                ..
+            } => attempt == own.get() && probed.awaits(sender),
+            _ => false,
         }
     }
 
@@ -269,7 +299,7 @@ impl Joiner {
     /// The join that would end now.
     fn under_way(&self) -> Option<Halted>
         ensures halted { result ≡ given_up_of self.now }
-        ensures limit { IfSome result (λ halted. halted.attempt < 4294967295) }
+        ensures limit { IfSome result (λ halted. halted.attempt < LAST_ATTEMPT) }
     {
         match self {
             Joiner::Asking { attempt, number } => Some(ended(attempt, *number, None)),
@@ -330,7 +360,7 @@ impl Joiner {
 
 fn ended(attempt: &Attempt, number: u64, neighbours: Option<(Id, Id)>) -> Halted
     ensures value { result ≡ halt attempt.now number neighbours }
-    ensures limit { result.attempt < 4294967295 }
+    ensures limit { result.attempt < LAST_ATTEMPT }
 {
     Halted {
         attempt: attempt.get(),

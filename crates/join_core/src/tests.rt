@@ -42,18 +42,16 @@ fn leasing(alloc: Global) -> Result<Joiner, Fail> {
 
 #[test]
 fn the_last_attempt_is_not_begun(rt: HostRuntime) {
-    let mut spent = Joiner::Waiting {
-        attempt: 4294967295,
-    };
+    let mut spent = Joiner::Waiting { attempt: u32::MAX };
     assert_eq!(rt; spent.begin(7), Begin::Spent);
-    assert_eq!(rt; spent.attempt(), 4294967295);
+    assert_eq!(rt; spent.attempt(), u32::MAX);
     let mut last = Joiner::Waiting {
-        attempt: 4294967294,
+        attempt: u32::MAX - 1,
     };
     assert_eq!(rt;
         last.begin(7),
         Begin::Started {
-            attempt: 4294967294
+            attempt: u32::MAX - 1
         }
     );
     assert_eq!(rt; last.begin(8), Begin::Already);
@@ -62,12 +60,12 @@ fn the_last_attempt_is_not_begun(rt: HostRuntime) {
 #[test]
 fn the_last_join_is_given_up(rt: HostRuntime) {
     let mut joiner = Joiner::Waiting {
-        attempt: 4294967294,
+        attempt: u32::MAX - 1,
     };
     assert_eq!(rt; joiner.give_up(), None);
     joiner.begin(7);
     let halted = Halted {
-        attempt: 4294967294,
+        attempt: u32::MAX - 1,
         number: 7,
         neighbours: None,
     };
@@ -83,7 +81,9 @@ fn a_leaf_that_a_reply_tells_of_is_probed_too(rt: HostRuntime) -> Result<(), Fai
     joiner.begin(7);
     assert!(rt; joiner.on_reply(alloc, 2, &list(alloc, &[0x30])?)?.is_none());
     assert!(rt; joiner.on_reply(alloc, 1, &list(alloc, &[])?)?.is_none());
+    assert!(rt; joiner.is_asking(1) && !joiner.is_asking(2) && !joiner.awaits(id(0x30), 1));
     let probes = joiner.on_reply(alloc, 1, &list(alloc, &[0x30])?)?;
+    assert!(rt; joiner.awaits(id(0x30), 1) && !joiner.awaits(id(0x50), 1) && !joiner.is_asking(1));
     assert!(rt; probes.is_some_and(|probes| probes.as_slice() == [id(0x30)].as_slice()));
     let leafs = list(alloc, &[0x50, 0x30])?;
     match joiner.on_probe_reply(alloc, id(0x30), 1, &leafs, id(0x30), id(0x50))? {

@@ -102,4 +102,8 @@ found_better_leaf right left key least than a b h k =
       there z (inr p) = record { member = in_order_there right left z (inr p.member); better = p.better }
 
       back : (z : ℕ) → Improves (also_of right left) key least than z → Improves right key least than z ⊎ Improves left key least than z
-      back z p = elim (in_order_back right left z p.member) [ inl c ↦ inl (record { member = c; better = p.better }) | inr c ↦ inr (record { member = c; better = p.better }) ]
+      back z p = elim (in_order_back right left z p.member) [
+        | inl c ↦ inl (record { member = c; better = p.better })
+        | inr c ↦ inr
+            (record { member = c; better = p.better })
+      ]

@@ -1,4 +1,3 @@
 pub mod Leaves
-pub mod Way
 pub mod Room
 pub mod Range

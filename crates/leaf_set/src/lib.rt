@@ -1,8 +1,9 @@
-//! The leaf set of a node: of all that it learnt, the eight nearest clockwise and the eight nearest counterclockwise
-//! (Pastry, Rowstron and Druschel 2001).
+//! The leaf set of a node: of all that it learnt, the nearest clockwise and the nearest counterclockwise,
+//! [`LEAVES_PER_SIDE`](ring_math::LEAVES_PER_SIDE) of each (Pastry, Rowstron and Druschel 2001).
 #![tactic(auto)]
 
 ghost use Rattle.std.specs.Prelude.{◌≡◌, ◌≤◌, ◌&&◌, ◌||◌, ◌++◌, not, [], ℕ, List, Contains, MatchOption, length, slice_get};
+ghost use Rattle.ring_math.specs.Names.{Id};
 ghost use Rattle.ring_math.specs.Members.{IsClosest};
 ghost use Rattle.ring_math.specs.Sides.{learn as learn_of};
 ghost use Rattle.leaf_set.specs.Leaves.{StandsFor, Improves, in_order, holds};
@@ -10,11 +11,11 @@ ghost use Rattle.leaf_set.specs.Range.{is_in_range};
 
 mod side;
 
-use ring_math::{Id, Ids, nearer_of};
-use side::{Side, Way};
+use ring_math::{Direction, Id, Ids, nearer_of};
+use side::Side;
 use std::marker::Model;
 
-/// Two arrays of eight identifiers by distance, seen from a node that is in neither.
+/// Two arrays of identifiers by distance, seen from a node that is in neither.
 #[derive(Drop)]
 pub struct LeafSet {
     me: Id,
@@ -67,18 +68,18 @@ impl LeafSet {
         self.right.has(id) || self.left.has(id)
     }
 
-    /// Takes an identifier in on each side where it is among the nearest eight. It answers whether the identifier was
+    /// Takes an identifier in on each side where it is among the nearest. It answers whether the identifier was
     /// on neither side and now is on one. The node itself is never learnt.
     pub fn learn(&mut self, id: Id) -> bool
         ensures me { self.new.me ≡ self.old.me }
-        ensures stands { (known : List ℕ) → StandsFor self.old known → StandsFor self.new (learn_of self.old.me known id) }
+        ensures stands { (known : List Id) → StandsFor self.old known → StandsFor self.new (learn_of self.old.me known id) }
         ensures answer { result ≡ not (holds self.old id) && holds self.new id }
     {
         if id == self.me || self.has(id) {
             return false;
         }
-        let on_right = self.right.place(self.me, Way::Clockwise, id);
-        let on_left = self.left.place(self.me, Way::Counterclockwise, id);
+        let on_right = self.right.place(self.me, Direction::Clockwise, id);
+        let on_left = self.left.place(self.me, Direction::Counterclockwise, id);
         on_right || on_left
     }
 
@@ -96,13 +97,13 @@ impl LeafSet {
         self.left.get(n)
     }
 
-    /// Whether a side has fewer than eight, or the key is no farther clockwise than the farthest on the right, or no
+    /// Whether a side has fewer than it can hold, or the key is no farther clockwise than the farthest on the right, or no
     /// farther counterclockwise than the farthest on the left.
     pub fn in_range(&self, key: Id) -> bool
         ensures { result ≡ is_in_range self.now key }
     {
-        self.right.reaches(self.me, Way::Clockwise, key)
-            || self.left.reaches(self.me, Way::Counterclockwise, key)
+        self.right.reaches(self.me, Direction::Clockwise, key)
+            || self.left.reaches(self.me, Direction::Counterclockwise, key)
     }
 
     /// The leaf that no leaf is nearer to the key than. None exactly where there is no leaf.
@@ -116,8 +117,8 @@ impl LeafSet {
     /// Of the leaves that share at least `least` digits with the key and are nearer to it than `than`, the nearest.
     /// None exactly where there is none.
     pub fn best(&self, key: Id, least: u8, than: Id) -> Option<Id>
-        ensures { let better = λ (z : ℕ). Improves (in_order self.now) key least than z in
-            MatchOption result ((z : ℕ) → better z → ⊥) (λ y. IsClosest better key y) }
+        ensures { let better = λ (z : Id). Improves (in_order self.now) key least than z in
+            MatchOption result ((z : Id) → better z → ⊥) (λ y. IsClosest better key y) }
     {
         nearer_of(
             self.right.best(key, least, than),

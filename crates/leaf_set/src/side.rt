@@ -1,69 +1,51 @@
-//! One side of a leaf set: the nearest eight, going one way round the circle.
+//! One side of a leaf set: the nearest [`LEAVES_PER_SIDE`] identifiers, going one way round the circle.
 
-ghost use Rattle.std.specs.Prelude.{◌≡◌, ◌<◌, ◌≤◌, ◌-◌, ◌++◌, ◌∷◌, not, filter, [], ℕ, List, length, take, nat_lt, false, slice_get, MatchOption, Contains};
+ghost use Rattle.std.specs.Prelude.{◌≡◌, ◌<◌, ◌≤◌, ◌+◌, ◌-◌, ◌++◌, ◌∷◌, not, filter, [], ℕ, List, length, take, nat_lt, false, slice_get};
+ghost use Rattle.std.specs.Prelude.{MatchOption, Contains};
 ghost use Rattle.std.specs.List.{position_or_len};
+ghost use Rattle.ring_math.specs.Direction.{far, reaches as reaches_of};
 ghost use Rattle.ring_math.specs.Members.{IsClosest};
 ghost use Rattle.ring_math.specs.Sides.{placed, is_in};
 ghost use Rattle.leaf_set.specs.Leaves.{Improves};
 ghost use Rattle.leaf_set.specs.Room.{put_in as put_in_of};
-ghost use Rattle.leaf_set.specs.Way.{far, reaches as reaches_of};
 
-use ring_math::{Id, Ids, cw, improves, nearer_of};
+use ring_math::{Direction, Id, Ids, LEAVES_PER_SIDE, MOST_MEMBERS, distance, improves, nearer_of};
 use std::marker::Model;
 
-/// How many identifiers a side holds at most.
-pub(crate) const SIZE: usize = 8;
-
-/// Which way round the circle a side goes.
-#[derive(Clone, Copy)]
-pub(crate) enum Way {
-    Clockwise,
-    Counterclockwise,
-}
-
-/// How far it is from `me` to `id`, going that way.
-fn distance(me: Id, way: Way, id: Id) -> u128
-    ensures { result ≡ far me way id }
-{
-    match way {
-        Way::Clockwise => cw(me, id),
-        Way::Counterclockwise => cw(id, me),
-    }
-}
-
 /// Moves the identifiers from a place on up by one, which drops the last, and fills the place.
-fn put_in(ids: &mut [Id; SIZE], place: usize, id: Id)
-    requires { place < 8 }
-    ensures size { length ids.old ≡ 8 }
-    ensures value { ids.new ≡ put_in_of ids.old place id (7 - place) }
+fn put_in(ids: &mut [Id; LEAVES_PER_SIDE], place: usize, id: Id)
+    requires { place < LEAVES_PER_SIDE }
+    ensures size { length ids.old ≡ LEAVES_PER_SIDE }
+    ensures value { ids.new ≡ put_in_of ids.old place id (LEAVES_PER_SIDE - 1 - place) }
 {
-    ids.copy_within(place..SIZE - 1, place + 1);
+    ids.copy_within(place..LEAVES_PER_SIDE - 1, place + 1);
     ids[place] = id;
 }
 
 /// Appends an identifier to a list that has room for it.
 fn append(out: &mut Ids, id: Id)
-    requires { length out.old < 17 }
+    requires { length out.old < MOST_MEMBERS }
     ensures { out.new ≡ out.old ++ id ∷ [] }
 {
     let _pushed = out.push(id);
 }
 
-/// At most eight identifiers, the nearest first.
+/// At most [`LEAVES_PER_SIDE`] identifiers, the nearest first.
 #[derive(Drop)]
 pub(crate) struct Side {
-    ids: [Id; SIZE],
+    ids: [Id; LEAVES_PER_SIDE],
     len: usize,
 }
 
 impl Model for Side {
     ghost use Rattle.std.specs.Prelude.{ℕ, List, take, ◌≤◌};
+    ghost use Rattle.ring_math.specs.declared.limits.TheConstants.{LEAVES_PER_SIDE};
 
     ghost Value = { List ℕ };
 
     ghost view = { λ a. take a.len a.ids };
 
-    ghost invariant = { λ a. a.len ≤ 8 };
+    ghost invariant = { λ a. a.len ≤ LEAVES_PER_SIDE };
 }
 
 impl Side {
@@ -72,7 +54,7 @@ impl Side {
         ensures { result ≡ [] }
     {
         Side {
-            ids: [Id(0); SIZE],
+            ids: [Id(0); LEAVES_PER_SIDE],
             len: 0,
         }
     }
@@ -89,7 +71,7 @@ impl Side {
     /// The identifiers, the nearest first.
     pub(crate) fn as_slice(&self) -> &[Id]
         ensures value { result.now ≡ self.now }
-        ensures limit { length self.now ≤ 8 }
+        ensures limit { length self.now ≤ LEAVES_PER_SIDE }
     {
         &self.ids[..self.len]
     }
@@ -107,12 +89,13 @@ impl Side {
         self.as_slice().iter().any(|other| *other == id)
     }
 
-    /// Whether there are fewer than eight, or the key is no farther than the last.
-    pub(crate) fn reaches(&self, me: Id, way: Way, key: Id) -> bool
-        ensures { result ≡ reaches_of me way self.now key }
+    /// Whether there are fewer than [`LEAVES_PER_SIDE`], or the key is no farther than the last.
+    pub(crate) fn reaches(&self, me: Id, direction: Direction, key: Id) -> bool
+        ensures { result ≡ reaches_of me direction self.now key }
     {
         let ids = self.as_slice();
-        ids.len() < SIZE || distance(me, way, key) <= distance(me, way, ids[SIZE - 1])
+        ids.len() < LEAVES_PER_SIDE
+            || distance(me, direction, key) <= distance(me, direction, ids[LEAVES_PER_SIDE - 1])
     }
 
     /// The one nearest to the key.
@@ -143,7 +126,7 @@ impl Side {
     /// Appends the identifiers, the nearest first.
     pub(crate) fn copy_to(&self, out: &mut Ids)
         requires { length out.old ≤ 1 }
-        ensures limit { length self.now ≤ 8 }
+        ensures limit { length self.now ≤ LEAVES_PER_SIDE }
         ensures copied { out.new ≡ out.old ++ self.now }
     {
         for id in self.as_slice() {
@@ -153,7 +136,7 @@ impl Side {
 
     /// How many of these are not in another side.
     pub(crate) fn count_besides(&self, other: &Side) -> usize
-        ensures limit { result ≤ 8 }
+        ensures limit { result ≤ LEAVES_PER_SIDE }
         ensures value { result ≡ length (filter (λ y. not (is_in other.now y)) self.now) }
     {
         let mut count = 0;
@@ -167,7 +150,7 @@ impl Side {
 
     /// Appends those that are not in another side, the nearest first.
     pub(crate) fn copy_besides(&self, other: &Side, out: &mut Ids)
-        requires { length out.old ≤ 9 }
+        requires { length out.old ≤ LEAVES_PER_SIDE + 1 }
         ensures { out.new ≡ out.old ++ filter (λ y. not (is_in other.now y)) self.now }
     {
         for id in self.as_slice() {
@@ -178,33 +161,33 @@ impl Side {
     }
 
     /// The place of the first that is farther than this one, or how many there are.
-    fn place_of(&self, me: Id, way: Way, id: Id) -> usize
+    fn place_of(&self, me: Id, direction: Direction, id: Id) -> usize
         ensures within { result ≤ length self.now }
-        ensures limit { length self.now ≤ 8 }
-        ensures first { result ≡ position_or_len (λ y. nat_lt (far me way id) (far me way y)) self.now }
+        ensures limit { length self.now ≤ LEAVES_PER_SIDE }
+        ensures first { result ≡ position_or_len (λ y. nat_lt (far me direction id) (far me direction y)) self.now }
     {
-        let from_me = distance(me, way, id);
+        let from_me = distance(me, direction, id);
         let ids = self.as_slice();
         for (place, other) in ids.iter().enumerate() {
-            if from_me < distance(me, way, *other) {
+            if from_me < distance(me, direction, *other) {
                 return place;
             }
         }
         ids.len()
     }
 
-    /// Puts an identifier in its place, behind those as far as it, where it is among the first eight. It answers
-    /// whether it is.
-    pub(crate) fn place(&mut self, me: Id, way: Way, id: Id) -> bool
-        ensures placed { self.new ≡ take 8 (placed (far me way) id self.old) }
+    /// Puts an identifier in its place, behind those as far as it, where it is among the first
+    /// [`LEAVES_PER_SIDE`]. It answers whether it is.
+    pub(crate) fn place(&mut self, me: Id, direction: Direction, id: Id) -> bool
+        ensures placed { self.new ≡ take LEAVES_PER_SIDE (placed (far me direction) id self.old) }
         ensures answer { is_in self.old id ≡ false → result ≡ is_in self.new id }
     {
-        let place = self.place_of(me, way, id);
-        if place == SIZE {
+        let place = self.place_of(me, direction, id);
+        if place == LEAVES_PER_SIDE {
             return false;
         }
         put_in(&mut self.ids, place, id);
-        self.len = SIZE.min(self.len + 1);
+        self.len = LEAVES_PER_SIDE.min(self.len + 1);
         true
     }
 }

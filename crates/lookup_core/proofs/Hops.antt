@@ -1,18 +1,19 @@
 -- The cases of the next hop by what the knowledge of a node gives.
-use Rattle.std.proofs.Common.{◌≡◌, ◌≢◌, ℕ, ◌<◌, ◌≤◌, ◌^◌, Bool, true, false, cond, ◌||◌, ◌==◌, nat_lt, nat_le, List, length, Option, Some, None, refl, sym, ap, ◌∙◌, subst, arith, inl, inr}
-use Rattle.std.specs.Prelude.{slice_get, slice_index}
-use Rattle.std.proofs.lemmas.Bool.{cases_lt, cond-true, cond-false, or_left}
-use Rattle.std.proofs.lemmas.Bool.Decides.{nat_tests}
-use Rattle.std.proofs.lemmas.Option.{slice_get_past, slice_get-get_or}
+use Rattle.std.proofs.Common.{◌≡◌, ◌≢◌, ℕ, ◌<◌, ◌^◌, Bool, true, false, cond, ◌||◌, ◌==◌, List, Option, Some, None, refl}
+use Rattle.std.proofs.Common.{sym, ap, ◌∙◌, subst, arith}
+use Rattle.std.proofs.lemmas.Bool.{cond-true, cond-false, or_left}
 use Rattle.std.proofs.lemmas.Bool.{eq-eqb}
-use Rattle.ring_math.specs.Ring.{cw_of, digit_of, shared_of, is_nearer}
+use Rattle.ring_math.specs.declared.limits.TheConstants.{DIGITS, DIGIT_VALUES}
+use Rattle.ring_math.specs.declared.direction.Direction.TheVariants.{Clockwise, Counterclockwise}
+use Rattle.ring_math.specs.Direction.{reaches}
+use Rattle.ring_math.specs.Ring.{digit_of, shared_of, is_nearer}
 use Rattle.ring_math.specs.Sides.{entry_of}
 use Rattle.coverage.specs.declared.Reach.{Reach}
 use Rattle.coverage.specs.declared.Hop.{Hop}
 use Rattle.coverage.specs.declared.Hop.TheVariants.{Here, To}
 use Rattle.coverage.specs.Coverage.{covers_of, gap_of, in_arcs, is_alone, left_end, right_end}
 use Rattle.coverage.specs.Known.{KnowsLinks}
-use Rattle.coverage.specs.NextHop.{within, in_leaf_range, to_leaf, to_any, to_entry, by_prefix, onward, unless_gap, next_hop_of}
+use Rattle.coverage.specs.NextHop.{in_leaf_range, to_leaf, to_any, to_entry, by_prefix, onward, unless_gap, next_hop_of}
 use Rattle.coverage.proofs.Hops.{next_hop-nearer}
 use Rattle.leaf_set.specs.Leaves.{Leaves, StandsFor as LeafSetStandsFor}
 use Rattle.leaf_set.specs.Range.{is_in_range}
@@ -21,39 +22,28 @@ use Rattle.lookup_core.specs.Kept.{Kept, StandsFor, Others, if_nearer}
 
 -- ---- in leaf range
 
-within_eight : (xs : List ℕ) (d : ℕ) (far : ℕ → ℕ) → nat_lt (length xs) 8 || nat_le d (far (slice_index xs 7)) ≡ within d (slice_get xs 7) far
-within_eight xs d far =
-    elim (cases_lt (length xs) 8) [
-      | inl lt ↦ rw (slice_get_past xs 7 (omega arith)) (or_left (nat_lt (length xs) 8) _ (less (length xs) lt))
-      | inr ge ↦ rw (slice_get-get_or xs 7 0 (omega arith)) (not_less (length xs) (nat_le d (far (slice_index xs 7))) ge)
-    ] where
-      less : (n : ℕ) → n < 8 → nat_lt n 8 ≡ true
-      less n lt = grind (arith, nat_tests)
-
-      not_less : (n : ℕ) (b : Bool) → 8 ≤ n → nat_lt n 8 || b ≡ b
-      not_less n b ge = grind (arith, nat_tests)
-
 or_same : (a b c d : Bool) → a ≡ c → b ≡ d → a || b ≡ c || d
 or_same a b c d e f = rw (e, f) refl
 
 in_range-is : (s : Leaves) (known : List ℕ) (key : ℕ) → LeafSetStandsFor s known → is_in_range s key ≡ in_leaf_range s.me known key
 in_range-is s known key st =
-    or_same _ _ _ _
-    (within_eight s.right (cw_of s.me key) (λ y. cw_of s.me y) ∙ ap (λ ids. within (cw_of s.me key) (slice_get ids 7) (λ y. cw_of s.me y)) st.right)
-    (within_eight s.left (cw_of key s.me) (λ y. cw_of y s.me) ∙ ap (λ ids. within (cw_of key s.me) (slice_get ids 7) (λ y. cw_of y s.me)) st.left)
+    or_same _ _ _ _ (ap (λ side. reaches s.me Clockwise side key) st.right) (ap (λ side. reaches s.me Counterclockwise side key) st.left)
 
 pub onward_leaf : (s : Leaves) (known : List ℕ) (key : ℕ) → LeafSetStandsFor s known → is_in_range s key ≡ true → to_leaf s.me known key ≡ onward s.me known key
-onward_leaf s known key st e = sym (cond-true (in_leaf_range s.me known key) (to_leaf s.me known key) (by_prefix s.me known key) (sym (in_range-is s known key st) ∙ e))
+onward_leaf s known key st e = sym (cond-true (in_leaf_range s.me known key) (to_leaf s.me known key) (by_prefix s.me known key)
+    (sym (in_range-is s known key st) ∙ e))
 
-pub onward_prefix : (s : Leaves) (known : List ℕ) (key : ℕ) → LeafSetStandsFor s known → is_in_range s key ≡ false → by_prefix s.me known key ≡ onward s.me known key
-onward_prefix s known key st e = sym (cond-false (in_leaf_range s.me known key) (to_leaf s.me known key) (by_prefix s.me known key) (sym (in_range-is s known key st) ∙ e))
+pub onward_prefix : (s : Leaves) (known : List ℕ) (key : ℕ) → LeafSetStandsFor s known → is_in_range s key ≡ false →
+    by_prefix s.me known key ≡ onward s.me known key
+onward_prefix s known key st e = sym (cond-false (in_leaf_range s.me known key) (to_leaf s.me known key) (by_prefix s.me known key)
+    (sym (in_range-is s known key st) ∙ e))
 
 -- ---- by prefix
 
-pub entry_is : (k : Kept) (known : List ℕ) (me row col : ℕ) (key : ℕ) → StandsFor k known → me ≡ k.leafs.me → row ≡ shared_of me key → row < 32 →
+pub entry_is : (k : Kept) (known : List ℕ) (me row col : ℕ) (key : ℕ) → StandsFor k known → me ≡ k.leafs.me → row ≡ shared_of me key → row < DIGITS →
     col ≡ digit_of key row → entry_in k.table row col ≡ entry_of k.leafs.me known (shared_of k.leafs.me key) (digit_of key (shared_of k.leafs.me key))
 entry_is k known me row col key st same shares hr digit =
-    let hc : col < 16 = omega (arith, digit) in
+    let hc : col < DIGIT_VALUES = omega (arith, digit) in
     let row_is : row ≡ shared_of k.leafs.me key = shares ∙ ap (λ m. shared_of m key) same in
     let col_is : col ≡ digit_of key (shared_of k.leafs.me key) = digit ∙ ap (digit_of key) row_is in
     st.table.entry row col hr hc ∙ ap (λ m. entry_of m known row col) st.me ∙ ap (λ r. entry_of k.leafs.me known r col) row_is
@@ -81,12 +71,14 @@ others_of r known me e k = subst (λ m. Others m known) (sym e) (record { bound 
 pub covers-me : (r : Reach) (key : ℕ) → covers_of r key ≡ false → key ≢ r.me
 unfolding in_arcs
 covers-me r key out same =
-    let whole : covers_of r key ≡ true = or_left (in_arcs r.me (left_end r) (right_end r) key) (is_alone r) (or_left (key == r.me) _ (eq-eqb key r.me same)) in cc
+    let whole : covers_of r key ≡ true = or_left (in_arcs r.me (left_end r) (right_end r) key) (is_alone r)
+    (or_left (key == r.me) _ (eq-eqb key r.me same)) in cc
 
 pub hop-here : (r : Reach) (known : List ℕ) (key : ℕ) → covers_of r key ≡ true → Here ≡ next_hop_of r known key
 hop-here r known key e = sym (cond-true (covers_of r key) Here (unless_gap r known key (gap_of r key)) e)
 
-pub hop-gap : (r : Reach) (known : List ℕ) (key : ℕ) (o : Option ℕ) → covers_of r key ≡ false → o ≡ gap_of r key → unless_gap r known key o ≡ next_hop_of r known key
+pub hop-gap : (r : Reach) (known : List ℕ) (key : ℕ) (o : Option ℕ) → covers_of r key ≡ false → o ≡ gap_of r key →
+    unless_gap r known key o ≡ next_hop_of r known key
 hop-gap r known key o out gap = ap (unless_gap r known key) gap ∙ sym (cond-false (covers_of r key) Here (unless_gap r known key (gap_of r key)) out)
 
 pub hop-nearer : (r : Reach) (known : List ℕ) (key y : ℕ) (hop : Hop) → KnowsLinks r known → key < 2 ^ 128 → hop ≡ next_hop_of r known key → hop ≡ To y →

@@ -1,9 +1,11 @@
 -- The closest of a list by what was found in a set, and the sets of leaves and entries that a table and two sides hold.
-use Rattle.std.proofs.Common.{◌≡◌, ◌≢◌, ℕ, ◌+◌, ◌*◌, ◌/◌, ◌%◌, ◌<◌, ◌^◌, ◌⊎◌, Bool, true, ◌==◌, List, [], ◌∷◌, ◌++◌, length, get_or, find, filter, Option, Some, None, MatchOption, refl, sym, ap, ◌∙◌, subst, arith, inl, inr}
+use Rattle.std.proofs.Common.{◌≡◌, ◌≢◌, ℕ, ◌+◌, ◌*◌, ◌/◌, ◌%◌, ◌<◌, ◌^◌, ◌⊎◌, Bool, true, ◌==◌, List, [], ◌∷◌, ◌++◌, length, get_or, find, filter}
+use Rattle.std.proofs.Common.{Option, Some, None, MatchOption, refl, sym, ap, ◌∙◌, subst, arith, inl, inr}
 use Rattle.std.specs.List.{Contains}
 use Rattle.std.proofs.lemmas.Bool.{cases_Bool, cond-true, cond-false, and_parts, eqb-true, eq-eqb}
 use Rattle.std.proofs.lemmas.List.{get_or_default}
 use Rattle.std.proofs.lemmas.List.Elements.{Contains-append_left, Contains-append_right, Contains-append_cases}
+use Rattle.ring_math.specs.declared.limits.TheConstants.{DIGITS, DIGIT_VALUES}
 use Rattle.ring_math.specs.Ring.{digit_of, shared_of}
 use Rattle.ring_math.specs.Members.{InRing, IsClosest}
 use Rattle.ring_math.specs.Sides.{leaves, also_of, right_side, belongs, entry_of, entries_of, is_entry, is_some_at}
@@ -27,7 +29,8 @@ closest_in-found [] key None range hk h = refl
 closest_in-found [] key (Some y) range hk h = absurd (Contains-none y (h.some y refl).member)
 closest_in-found (x ∷ xs) key None range hk h = absurd (h.none refl x (Contains-here x xs))
 closest_in-found (x ∷ xs) key (Some y) range hk h =
-    ap Some (closest_one (Contains (x ∷ xs)) key y (closest_from key x xs) range hk (h.some y refl) (closest_in-closest (x ∷ xs) key (closest_from key x xs) refl))
+    ap Some (closest_one (Contains (x ∷ xs)) key y (closest_from key x xs) range hk (h.some y refl)
+    (closest_in-closest (x ∷ xs) key (closest_from key x xs) refl))
 
 -- ---- leaves
 
@@ -70,25 +73,25 @@ module _ (t : Table) (known : List ℕ) (st : TableStandsFor t known) where
   held_is_entry : (z : ℕ) → Contains t.entries (Some z) → Contains (entries_of t.me known) z
   held_is_entry z (k, lt, at) =
       let size = st.size in
-      let row : k / 16 < 32 = omega arith in
-      let col : k % 16 < 16 = omega arith in
-      let place : 16 * (k / 16) + k % 16 ≡ k = omega arith in
+      let row : k / DIGIT_VALUES < DIGITS = omega arith in
+      let col : k % DIGIT_VALUES < DIGIT_VALUES = omega arith in
+      let place : DIGIT_VALUES * (k / DIGIT_VALUES) + k % DIGIT_VALUES ≡ k = omega arith in
       let read : get_or t.entries k None ≡ Some z = get_or_default t.entries k None (Some z) lt ∙ at in
-      let held : entry_in t (k / 16) (k % 16) ≡ Some z = subst (λ i. get_or t.entries i None ≡ Some z) (sym place) read in
-      entry_is_entry t.me (k / 16) (k % 16) known z (sym (st.entry (k / 16) (k % 16) row col) ∙ held)
+      let held : entry_in t (k / DIGIT_VALUES) (k % DIGIT_VALUES) ≡ Some z = subst (λ i. get_or t.entries i None ≡ Some z) (sym place) read in
+      entry_is_entry t.me (k / DIGIT_VALUES) (k % DIGIT_VALUES) known z (sym (st.entry (k / DIGIT_VALUES) (k % DIGIT_VALUES) row col) ∙ held)
 
   entry_is_held : (z : ℕ) → Others t.me known → Contains (entries_of t.me known) z → Contains t.entries (Some z)
   entry_is_held z o c =
       let (in_known, e) = Contains-from_filter (is_entry t.me known) known z c in
       let hz : z < 2 ^ 128 = o.in_ring z in_known in
       let other : t.me ≢ z = λ same. o.others (subst (Contains known) (sym same) in_known) in
-      let row : shared_of t.me z < 32 = (digit_of-shared t.me z o.bound hz other).0 in
-      let col : digit_of z (shared_of t.me z) < 16 = omega arith in
+      let row : shared_of t.me z < DIGITS = (digit_of-shared t.me z o.bound hz other).0 in
+      let col : digit_of z (shared_of t.me z) < DIGIT_VALUES = omega arith in
       let size = st.size in
       let held = st.entry (shared_of t.me z) (digit_of z (shared_of t.me z)) row col in
-      let found : get_or t.entries (16 * shared_of t.me z + digit_of z (shared_of t.me z)) None ≡ Some z = held ∙ some_at z _ e in
-      let lt : 16 * shared_of t.me z + digit_of z (shared_of t.me z) < length t.entries = omega arith in
-      (16 * shared_of t.me z + digit_of z (shared_of t.me z), lt, get_or_default t.entries _ (Some z) None lt ∙ found)
+      let found : get_or t.entries (DIGIT_VALUES * shared_of t.me z + digit_of z (shared_of t.me z)) None ≡ Some z = held ∙ some_at z _ e in
+      let lt : DIGIT_VALUES * shared_of t.me z + digit_of z (shared_of t.me z) < length t.entries = omega arith in
+      (DIGIT_VALUES * shared_of t.me z + digit_of z (shared_of t.me z), lt, get_or_default t.entries _ (Some z) None lt ∙ found)
 
 -- ---- the better leaves and entries
 
@@ -121,8 +124,10 @@ module _ (me : ℕ) (known : List ℕ) (key : ℕ) (o : Others me known) where
         E z = EntryImproves entries key (shared_of me key) me z
 
         there : (z : ℕ) → L z ⊎ E z → Contains candidates z
-        there z (inl p) = Contains-filter (is_better me key) (leaves me known ++ entries_of me known) z (Contains-append_left (leaves me known) (entries_of me known) z p.member) p.better
-        there z (inr p) = Contains-filter (is_better me key) (leaves me known ++ entries_of me known) z (Contains-append_right (leaves me known) (entries_of me known) z (out z p.entry)) p.better
+        there z (inl p) = Contains-filter (is_better me key) (leaves me known ++ entries_of me known) z
+            (Contains-append_left (leaves me known) (entries_of me known) z p.member) p.better
+        there z (inr p) = Contains-filter (is_better me key) (leaves me known ++ entries_of me known) z
+            (Contains-append_right (leaves me known) (entries_of me known) z (out z p.entry)) p.better
 
         back : (z : ℕ) → Contains candidates z → L z ⊎ E z
         back z c =
@@ -134,7 +139,8 @@ module _ (me : ℕ) (known : List ℕ) (key : ℕ) (o : Others me known) where
 
 pub best_known_is : (k : Kept) (known : List ℕ) (key least than : ℕ) (a b : Option ℕ) → StandsFor k known → Others k.leafs.me known → key < 2 ^ 128 →
     than ≡ k.leafs.me → least ≡ shared_of than key →
-    MatchOption a ((z : ℕ) → LeafImproves (in_order k.leafs) key least than z → ⊥) (λ y. IsClosest (λ z. LeafImproves (in_order k.leafs) key least than z) key y) →
+    MatchOption a ((z : ℕ) → LeafImproves (in_order k.leafs) key least than z → ⊥)
+    (λ y. IsClosest (λ z. LeafImproves (in_order k.leafs) key least than z) key y) →
     MatchOption b ((z : ℕ) → EntryImproves k.table.entries key least than z → ⊥) (λ y. IsClosest (λ z. EntryImproves k.table.entries key least than z) key y) →
     nearer_of a b key ≡ closest_in key (filter (is_better k.leafs.me key) (leaves k.leafs.me known ++ entries_of k.leafs.me known))
 best_known_is k known key least than a b st o hk me shares says_a says_b =

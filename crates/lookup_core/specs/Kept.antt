@@ -1,5 +1,6 @@
 -- What a node's knowledge is seen as, and the lists that it stands for.
-use Rattle.std.specs.Prelude.{◌≡◌, ◌<◌, ◌^◌, ℕ, if◌then◌else◌, Option, Some, None, Bool, not, ◌&&◌, List, Contains}
+use Rattle.std.specs.Prelude.{◌≡◌, ◌<◌, ◌^◌, if◌then◌else◌, Option, Some, None, Bool, not, ◌&&◌, List, Contains}
+use Rattle.ring_math.specs.Names.{Id, Key}
 use Rattle.ring_math.specs.Ring.{is_nearer}
 use Rattle.ring_math.specs.Members.{InRing}
 use Rattle.leaf_set.specs.Leaves.{Leaves, holds, StandsFor as LeafSetStandsFor}
@@ -10,22 +11,22 @@ pub record Kept : Type 0 where
   pub table : Table
 
 -- its leaves and its table are those of the list, seen from one node
-pub record StandsFor (k : Kept) (known : List ℕ) : Type 0 where
+pub record StandsFor (k : Kept) (known : List Id) : Type 0 where
   pub me : k.table.me ≡ k.leafs.me
   pub leafs : LeafSetStandsFor k.leafs known
   pub table : TableStandsFor k.table known
 
 -- y was on neither side and now is on one
-abbrev pub is_taken : Leaves → Leaves → ℕ → Bool
+abbrev pub is_taken : Leaves → Leaves → Id → Bool
 is_taken old new y = not (holds old y) && holds new y
 
 -- the node and those that it knows are identifiers, and it is not among them
-pub record Others (me : ℕ) (known : List ℕ) : Type 0 where
+pub record Others (me : Id) (known : List Id) : Type 0 where
   pub bound : me < 2 ^ 128
   pub in_ring : InRing (Contains known)
   pub others : Contains known me → ⊥
 
 -- an identifier where it is nearer to the key than the node
-abbrev pub if_nearer : Option ℕ → ℕ → ℕ → Option ℕ
+abbrev pub if_nearer : Option Id → Id → Key → Option Id
 if_nearer None me key = None
 if_nearer (Some y) me key = if is_nearer y me key then Some y else None

@@ -1,6 +1,7 @@
 //! What a node knows of others: its leaf set and its prefix table.
 
-ghost use Rattle.std.specs.Prelude.{◌≡◌, ℕ, List, [], ◌||◌, IsOk, IfOk};
+ghost use Rattle.std.specs.Prelude.{◌≡◌, List, [], ◌||◌, IsOk, IfOk};
+ghost use Rattle.ring_math.specs.Names.{Id};
 ghost use Rattle.ring_math.specs.Sides.{learn as learn_of, learn_all as learn_all_of};
 ghost use Rattle.route_table.specs.Entries.{is_new};
 ghost use Rattle.lookup_core.specs.Kept.{StandsFor, is_taken};
@@ -74,7 +75,7 @@ impl Knowledge {
     /// Learns an identifier, and answers whether a side or the table changed.
     fn take_in(&mut self, id: Id) -> bool
         ensures me { self.new.leafs.me ≡ self.old.leafs.me }
-        ensures stands { (known : List ℕ) → StandsFor self.old known → StandsFor self.new (learn_of self.old.leafs.me known id) }
+        ensures stands { (known : List Id) → StandsFor self.old known → StandsFor self.new (learn_of self.old.leafs.me known id) }
         ensures answer { result ≡ (is_taken self.old.leafs self.new.leafs id || is_new self.old.table id) }
     {
         let on_side = self.leafs.learn(id);
@@ -86,7 +87,7 @@ impl Knowledge {
     pub fn learn(&mut self, _alloc: Global, id: Id) -> Result<bool, OutOfMemory>
         ensures ok { IsOk result }
         ensures me { self.new.leafs.me ≡ self.old.leafs.me }
-        ensures stands { (known : List ℕ) → StandsFor self.old known → StandsFor self.new (learn_of self.old.leafs.me known id) }
+        ensures stands { (known : List Id) → StandsFor self.old known → StandsFor self.new (learn_of self.old.leafs.me known id) }
         ensures answer { IfOk result (λ changed. changed ≡ (is_taken self.old.leafs self.new.leafs id || is_new self.old.table id)) }
     {
         Ok(self.take_in(id))
@@ -95,7 +96,7 @@ impl Knowledge {
     /// Learns these in order. It takes no memory.
     pub fn learn_all(&mut self, ids: &[Id])
         ensures me { self.new.leafs.me ≡ self.old.leafs.me }
-        ensures stands { (known : List ℕ) → StandsFor self.old known → StandsFor self.new (learn_all_of self.old.leafs.me known ids.now) }
+        ensures stands { (known : List Id) → StandsFor self.old known → StandsFor self.new (learn_all_of self.old.leafs.me known ids.now) }
     {
         for id in ids {
             let _changed = self.take_in(*id);

@@ -4,6 +4,7 @@
 mod hop;
 mod knowledge;
 
+pub use coverage::Hop;
 pub use hop::next_hop;
 pub use knowledge::Knowledge;
 

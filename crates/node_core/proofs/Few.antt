@@ -1,32 +1,47 @@
--- An insert waits for at most eight replicas, since it asks for at most nine copies; a step keeps that.
-use Rattle.std.proofs.Common.{◌≤◌, ◌-◌, ℕ, List, Contains, length, arith}
-use Rattle.std.proofs.lemmas.List.{length-take}
+-- An insert waits for no more replicas than there can be targets, since it asks for no more copies than there can be; a step keeps that.
+use Rattle.std.proofs.Common.{◌≤◌, [], Contains, length, refl, arith}
+use Rattle.ring_math.specs.Names.{Id, Key, Number, Hops}
+use Rattle.wire_msg.specs.Words.{Insert, Replicate}
+use Rattle.wire_msg.specs.declared.command.Command.{Command as NodeCommand}
 use Rattle.wire_msg.specs.declared.command.Command.TheVariants as command
-use Rattle.ring_math.specs.Keys.{key_of}
-use Rattle.ring_math.specs.Sides.{leaves}
+use Rattle.wire_msg.specs.declared.limits.TheConstants.{MOST_COPIES, MOST_TARGETS}
 use Rattle.overlay_rules.specs.declared.request.Pending.{Pending}
 use Rattle.overlay_rules.specs.State.{State}
-use Rattle.overlay_rules.specs.Outcome.{Input}
-use Rattle.overlay_rules.specs.Roots.{targets_of, nearest_to}
+use Rattle.overlay_rules.specs.Outcome.{Input, Command, Comes}
 use Rattle.overlay_rules.specs.Step.{step}
-use Rattle.overlay_rules.proofs.Each.{Each-contains}
-use Rattle.table_laws.proofs.FileRows.{Requests, told, insert_came}
-use Rattle.table_laws.proofs.AnswerRows.{PendingRow, waited, acked, asked_now, step_answered}
+use Rattle.overlay_rules.proofs.Each.{Each-contains, Each-itself, Each-weaker}
+use Rattle.overlay_rules.proofs.SeatStep.{step_seat}
+use Rattle.step_facts.proofs.Requests.{AsksFor, InputCarries, Requested, seat_requested}
 use Rattle.node_core.specs.Inputs.{InputIsInRange}
 
--- the copies that an input asks for
-copies_asked : (me : ℕ) (i : Input) (from n : ℕ) (f : List ℕ) (copies : ℕ) (b : List ℕ) → Requests me i from n (command.Insert f copies b) →
-    InputIsInRange i → copies ≤ 9
-copies_asked _ _ _ _ _ _ _ (told n c) h = h
-copies_asked _ _ _ _ _ _ _ (insert_came from o n hops f copies b) h = h.1
+-- a command asks for no more copies than there can be
+abbrev AsksFew : Id → Number → NodeCommand → Type 0
+AsksFew o n (command.Insert f copies b) = copies ≤ MOST_COPIES
+AsksFew o n (command.Join via) = Unit {0}
+AsksFew o n (command.Lookup key) = Unit {0}
+AsksFew o n (command.Fetch f) = Unit {0}
+AsksFew o n command.GiveUp = Unit {0}
+AsksFew o n (command.Reclaim f) = Unit {0}
 
-targets_few : (s : State) (f : List ℕ) (copies : ℕ) → copies ≤ 9 → length (targets_of s f copies) ≤ 8
-targets_few s f copies h = omega (arith, length-take (copies - 1) (nearest_to (key_of f) (leaves s.me s.known)))
+-- of a lookup on its way nothing is asked
+abbrev Anything : Id → Id → Number → Key → Hops → Type 0
+Anything to o n key hops = Unit {0}
 
-pub step_few : (s : State) (i : Input) → InputIsInRange i → ((p : Pending) → Contains s.pending p → length p.targets ≤ 8) →
-    (p : Pending) → Contains (step s i).state.pending p → length p.targets ≤ 8
-step_few s i h old p c = by_row p (Each-contains (PendingRow s i (step s i)) (step s i).state.pending p (step_answered s i).pending c) where
-  by_row : (p : Pending) → PendingRow s i (step s i) p → length p.targets ≤ 8
-  by_row _ (waited p c e) = old p c
-  by_row _ (acked p t c e f) = old p c
-  by_row _ (asked_now from n f copies b q w held few) = targets_few s f copies (copies_asked s.me i from n f copies b q h)
+input_asks : (me : Id) (i : Input) → InputIsInRange i → InputCarries AsksFew Anything me i
+input_asks me (Comes from (Insert o n hops f copies b)) h = h.1
+input_asks me (Comes from (Replicate o n f b)) h = (0, omega arith)
+input_asks me (Command n (command.Insert f copies b)) h = h
+input_asks me _ h = tt
+
+asked : (p : Pending) → length p.targets ≤ MOST_TARGETS → AsksFor AsksFew p
+asked p h = record { copies = MOST_COPIES; bytes = []; asked = omega arith; few = h }
+
+targets_few : (p : Pending) → AsksFor AsksFew p → length p.targets ≤ MOST_TARGETS
+targets_few p a = let most = a.asked in let few = a.few in omega arith
+
+pub step_few : (s : State) (i : Input) → InputIsInRange i → ((p : Pending) → Contains s.pending p → length p.targets ≤ MOST_TARGETS) →
+    (p : Pending) → Contains (step s i).state.pending p → length p.targets ≤ MOST_TARGETS
+step_few s i h old p c = targets_few p (Each-contains (AsksFor AsksFew) (step s i).state.pending p asks.pending c) where
+  asks : Requested AsksFew Anything s (step s i)
+  asks = seat_requested AsksFew Anything s i (step s i) (step_seat s i) refl (record { next = λ o n key hops y a w. tt }) (input_asks s.me i h)
+      (Each-weaker (Contains s.pending) (AsksFor AsksFew) s.pending (λ q d. asked q (old q d)) (Each-itself s.pending))

@@ -6,7 +6,7 @@ use Rattle.overlay_rules.specs.declared.gate.Gate.{Gate}
 use Rattle.overlay_rules.specs.declared.gate.Verdict.TheVariants.{Grant}
 use Rattle.overlay_rules.specs.State.{State, Lease, bare, joiner_of}
 use Rattle.overlay_rules.specs.Gates.{is_older, unless, gate_on, asked_links}
-use Rattle.overlay_rules.specs.Gatekeeper.{links_of, unless_lease, lease_of, gated_reach, cleared, is_left_to}
+use Rattle.overlay_rules.specs.Gatekeeper.{links_of, unless_lease, gated_reach, cleared, is_left_to}
 use Rattle.gate_core.specs.Reached.{joiner_in, reach_of}
 
 abbrev reach_with : ℕ → ℕ → ℕ → Option ℕ → Option ℕ → Reach
@@ -22,15 +22,15 @@ joiner-gated false g lists test (Some h) = by_test (test h.gate) where
   by_test false = refl
 
 -- what coverage sees once a request was granted
-pub gated-reach : (s : State) (x y from a l r : ℕ) →
-    reach_of (asked_links (links_of s x y) s.me from a l r Grant) s.me ≡ gated_reach (cleared s from a) x y from a l r
-gated-reach s x y from a l r =
-    let g : Gate = record { joiner = from; attempt = a; left = l; right = r } in
+pub gated-reach : (s : State) (x y : ℕ) (g : Gate) →
+    reach_of (asked_links (links_of s x y) s.me g Grant) s.me ≡ gated_reach (cleared s g.joiner g.attempt) x y g
+gated-reach s x y g =
     let lists : Lists = record { manifest = []; tombs = [] } in
-    ap (λ (j : Option ℕ). reach_with s.me x y j (joiner_in (gate_on (s.me == l) g (unless (is_older from a) (bare s.right_gate)))))
-    (joiner-gated (s.me == r) g lists (is_older from a) s.left_gate)
-    ∙ ap (reach_with s.me x y (joiner_of (gate_on (s.me == r) (lease_of from a l r lists) (unless_lease (is_older from a) s.left_gate))))
-    (joiner-gated (s.me == l) g lists (is_older from a) s.right_gate)
+    let older = is_older g.joiner g.attempt in
+    ap (λ (j : Option ℕ). reach_with s.me x y j (joiner_in (gate_on (s.me == g.left) g (unless older (bare s.right_gate)))))
+    (joiner-gated (s.me == g.right) g lists older s.left_gate)
+    ∙ ap (reach_with s.me x y (joiner_of (gate_on (s.me == g.right) (record { gate = g; lists = lists }) (unless_lease older s.left_gate))))
+    (joiner-gated (s.me == g.left) g lists older s.right_gate)
 
 -- the state once these gates stand, and the inserts in the gap are over
 abbrev pub opened_state : State → Option Lease → Option Lease → Reach → ℕ → State

@@ -6,12 +6,14 @@ use Rattle.ring_math.specs.Files.{buried_all}
 use Rattle.coverage.specs.GapFiles.{Lists}
 use Rattle.wire_msg.specs.declared.reply.Why.{Why}
 use Rattle.wire_msg.specs.declared.reply.Why.TheVariants as why
+use Rattle.overlay_rules.specs.declared.gate.Gate.{Gate}
 use Rattle.overlay_rules.specs.State.{State, Phase, Lease}
 use Rattle.overlay_rules.specs.State as phase
 use Rattle.overlay_rules.specs.Outcome.{nothing, becomes, sent}
 use Rattle.overlay_rules.specs.Routed.{members}
 use Rattle.wire_msg.specs.Words.{ProbeReply}
-use Rattle.overlay_rules.specs.Joining.{on_join, on_give_up, on_join_refuse, on_join_reply, on_probe_reply, on_deny, on_grant, learnt_of, first_left, first_right, kept_first, with_grant}
+use Rattle.overlay_rules.specs.Joining.{on_join, on_give_up, on_join_refuse, on_join_reply, on_probe_reply, on_deny, on_grant, learnt_of, first_left}
+use Rattle.overlay_rules.specs.Joining.{first_right, kept_first, with_grant}
 use Rattle.overlay_rules.specs.ReadyTest.{ready_test, ready_test_in, readied}
 use Rattle.overlay_rules.specs.Gates.{verdict}
 use Rattle.overlay_rules.specs.Gatekeeper.{lease_in, lease_by, deny, links_of, confirm_in, probe_in}
@@ -28,9 +30,9 @@ use Rattle.join_core.specs.Probes.{reply_of, probe_step_of}
 use Rattle.join_core.specs.Leases.{grant_step_of}
 use Rattle.join_core.specs.Ends.{refused_of, denied_of, given_up_of}
 use Rattle.join_core.specs.Outcomes.{begun_by, replied_by, probed_by, granted_by, ended_by, given_up_by, noted_in}
-use Rattle.replica_handover.specs.Taken.{is_done, is_complete}
-use Rattle.node_parts.specs.Seats.{links_in, left_lists, right_lists, kept_or, granted_phase}
-use Rattle.node_core.specs.Pledged.{taken_of, noted_at}
+use Rattle.replica_handover.specs.Taken.{Taken, kept_or, is_done, is_complete}
+use Rattle.node_parts.specs.Seats.{links_in, left_lists, right_lists, taken_of, granted_phase}
+use Rattle.node_core.specs.Pledged.{noted_at}
 
 -- ---- by the joiner's answers
 
@@ -148,10 +150,10 @@ noted-other s from lists (phase.Ready b u v) k = refl
 
 -- ---- by the links
 
-pub lease-ready : (s : State) (from a l r x y : ℕ) → Some (x, y) ≡ links_in s.phase →
-    lease_by s x y from a l r (verdict (links_of s x y) s.me from a l r) ≡ lease_in s from a l r s.phase
-lease-ready s from a l r x y e = by_phase s.phase e where
-  by_phase : (p : Phase) → Some (x, y) ≡ links_in p → lease_by s x y from a l r (verdict (links_of s x y) s.me from a l r) ≡ lease_in s from a l r p
+pub lease-ready : (s : State) (g : Gate) (x y : ℕ) → Some (x, y) ≡ links_in s.phase →
+    lease_by s x y g (verdict (links_of s x y) s.me g) ≡ lease_in s g s.phase
+lease-ready s g x y e = by_phase s.phase e where
+  by_phase : (p : Phase) → Some (x, y) ≡ links_in p → lease_by s x y g (verdict (links_of s x y) s.me g) ≡ lease_in s g p
   by_phase (phase.Ready b u v) f =
       let both : (x, y) ≡ (u, v) = cc in
       let p : x ≡ u = ap (λ (z : ℕ × ℕ). z.0) both in
@@ -162,9 +164,9 @@ lease-ready s from a l r x y e = by_phase s.phase e where
   by_phase (phase.Probing b m probed) f = cc
   by_phase (phase.Leasing b m u v fl fr) f = cc
 
-pub lease-unready : (s : State) (from a l r : ℕ) → None ≡ links_in s.phase → deny s from a why.NotReady ≡ lease_in s from a l r s.phase
-lease-unready s from a l r e = by_phase s.phase e where
-  by_phase : (p : Phase) → None ≡ links_in p → deny s from a why.NotReady ≡ lease_in s from a l r p
+pub lease-unready : (s : State) (g : Gate) → None ≡ links_in s.phase → deny s g.joiner g.attempt why.NotReady ≡ lease_in s g s.phase
+lease-unready s g e = by_phase s.phase e where
+  by_phase : (p : Phase) → None ≡ links_in p → deny s g.joiner g.attempt why.NotReady ≡ lease_in s g p
   by_phase (phase.Ready b u v) f = cc
   by_phase (phase.Waiting b) f = refl
   by_phase (phase.Asking b m) f = refl
@@ -220,16 +222,24 @@ pub by_parts : (s : State) (from a b x l y r : ℕ) (g h i j : Option Lease) →
 by_parts s from a b x l y r g h i j e f k m n = rw (e, f, k, m, n) refl
 
 -- the state once a grant was kept
-pub keeping-state : (s : State) (from : ℕ) (lists : Lists) (join : Finished) (from_left from_right left right : Option Lists) (files : List Held) →
+pub keeping-state : (s : State) (from : ℕ) (lists : Lists) (join : Finished) (from_left from_right left right : Option Lists) (given : Taken)
+    (files : List Held) →
     s.phase ≡ phase.Leasing join.attempt join.number join.left join.right from_left from_right →
     left ≡ (if from == join.left then Some lists else None) → right ≡ (if from == join.right then Some lists else None) →
-    files ≡ buried_all s.files lists.tombs →
-    ◌≡◌ {A = State} (record s { phase = granted_phase left right s.phase; files = files })
-    (with_grant s from lists join.attempt join.number join.left join.right from_left from_right)
-keeping-state s from lists join from_left from_right left right files e f g h =
-    ap (λ (p : Phase). record s { phase = granted_phase left right p; files = files }) e
-    ∙ ap (λ (x : Option Lists). record s { phase = phase.Leasing join.attempt join.number join.left join.right (kept_or from_left x) (kept_or from_right right); files = files }) f
-    ∙ ap (λ (x : Option Lists). record s { phase = phase.Leasing join.attempt join.number join.left join.right x (kept_or from_right right); files = files }) (kept-first (from == join.left) from_left lists)
-    ∙ ap (λ (x : Option Lists). record s { phase = phase.Leasing join.attempt join.number join.left join.right (kept_first (from == join.left) from_left lists) (kept_or from_right x); files = files }) g
-    ∙ ap (λ (x : Option Lists). record s { phase = phase.Leasing join.attempt join.number join.left join.right (kept_first (from == join.left) from_left lists) x; files = files }) (kept-first (from == join.right) from_right lists)
-    ∙ ap (λ (x : List Held). record s { phase = phase.Leasing join.attempt join.number join.left join.right (kept_first (from == join.left) from_left lists) (kept_first (from == join.right) from_right lists); files = x }) h
+    given ≡ record { left = left; right = right } → files ≡ buried_all s.files lists.tombs →
+    ◌≡◌ {A = State} (record s { phase = granted_phase given s.phase; files = files })
+    (with_grant s from lists (phase.Leasing join.attempt join.number join.left join.right from_left from_right))
+keeping-state s from lists join from_left from_right left right given files e f g t h =
+    ap (λ (p : Phase). record s { phase = granted_phase given p; files = files }) e
+    ∙ ap (λ (x : Taken). record s { phase = leased (kept_or from_left x.left) (kept_or from_right x.right); files = files }) t
+    ∙ ap (λ (x : Option Lists). record s { phase = leased (kept_or from_left x) (kept_or from_right right); files = files }) f
+    ∙ ap (λ (x : Option Lists). record s { phase = leased x (kept_or from_right right); files = files }) (kept-first (from == join.left) from_left lists)
+    ∙ ap (λ (x : Option Lists). record s { phase = leased (kept_first (from == join.left) from_left lists) (kept_or from_right x); files = files }) g
+    ∙ ap (λ (x : Option Lists). record s { phase = leased (kept_first (from == join.left) from_left lists) x; files = files })
+    (kept-first (from == join.right) from_right lists)
+    ∙ ap (λ (x : List Held). record s {
+      phase = leased (kept_first (from == join.left) from_left lists) (kept_first (from == join.right) from_right lists);
+      files = x;
+    }) h where
+      leased : Option Lists → Option Lists → Phase
+      leased x y = phase.Leasing join.attempt join.number join.left join.right x y

@@ -1,5 +1,6 @@
 -- A step keeps what each state of a node keeps, where what comes to it are identifiers.
 use Rattle.std.proofs.Common.{◌≡◌, ◌≢◌, ◌<◌, ◌≤◌, ◌^◌, ℕ, List, [], ◌∷◌, Contains, length, refl, sym, ap, subst}
+use Rattle.wire_msg.specs.declared.limits.TheConstants.{MOST_TARGETS}
 use Rattle.wire_msg.specs.declared.reply.Why.{Why}
 use Rattle.wire_msg.specs.declared.reply.Why.TheVariants as why
 use Rattle.wire_msg.specs.Words.{Message, JoinReply, ProbeReply, LeaseRequest, Grant, Deny, Confirm, Announce}
@@ -12,9 +13,9 @@ use Rattle.overlay_rules.proofs.Each.{Each, Each-weaker, Each-contains, Each-its
 use Rattle.overlay_rules.proofs.Seat.{Seat}
 use Rattle.overlay_rules.proofs.Seat as row
 use Rattle.overlay_rules.proofs.SeatStep.{step_seat}
-use Rattle.ring_laws.proofs.Learnt.{IsCons, Each-learn, Each-learn_all}
-use Rattle.ring_laws.proofs.Knows.{Knows, PhaseKnows, HasSome, Tells, WhyTells, InputTells, InputTells-weaker, seat_knows}
-use Rattle.ring_laws.proofs.Linked.{Linked, PhaseLinked, seat_linked}
+use Rattle.step_facts.proofs.Learnt.{IsCons, Each-learn, Each-learn_all}
+use Rattle.step_facts.proofs.Knows.{Knows, PhaseKnows, HasSome, Tells, WhyTells, InputTells, InputTells-weaker, seat_knows}
+use Rattle.step_facts.proofs.Linked.{Linked, PhaseLinked, seat_linked}
 use Rattle.node_parts.specs.Sound.{IsSound, PhaseIsSound}
 use Rattle.node_core.proofs.Few.{step_few}
 use Rattle.node_core.specs.Inputs.{IsId, IsInRange, WhyIsInRange, InputIsInRange}
@@ -58,7 +59,7 @@ has_some s so = by_phase s.phase so.phase where
   by_phase (Asking a n) h = tt
 
 sound_by : (t : State) → t.me < 2 ^ 128 → Each IsId t.known → HasSome t.phase t.known → Linked t →
-    ((p : Pending) → Contains t.pending p → length p.targets ≤ 8) → IsSound t
+    ((p : Pending) → Contains t.pending p → length p.targets ≤ MOST_TARGETS) → IsSound t
 sound_by t hm range some k few = record {
   me = hm;
   in_ring = λ z c. Each-contains IsId t.known z range c;
@@ -126,15 +127,17 @@ seat_range _ _ _ (row.announced s from) t k = Each-learn IsId s.me s.known from 
 seat_range s _ _ m t k = k
 
 pub step_sound : (s : State) (i : Input) → IsSound s → InputIsInRange i → IsSound (step s i).state
-step_sound s i so h = sound_by t (subst IsId (sym (seat_me s i (step s i) seat)) so.me) range some (seat_linked s i (step s i) seat so.me range (has_some s so) (linked s so)) (step_few s i h so.pending) where
-  t : State
-  t = (step s i).state
+step_sound s i so h = sound_by t (subst IsId (sym (seat_me s i (step s i) seat)) so.me) range some
+    (seat_linked s i (step s i) seat so.me range (has_some s so) (linked s so)) (step_few s i h so.pending) where
+      t : State
+      t = (step s i).state
 
-  seat : Seat s i (step s i)
-  seat = step_seat s i
+      seat : Seat s i (step s i)
+      seat = step_seat s i
 
-  range : Each IsId t.known
-  range = seat_range s i (step s i) seat (input_tells i h) (each_id s.known so.in_ring)
+      range : Each IsId t.known
+      range = seat_range s i (step s i) seat (input_tells i h) (each_id s.known so.in_ring)
 
-  some : HasSome t.phase t.known
-  some = (seat_knows (λ y. Unit {0}) s i (step s i) seat (λ e. tt) (knows_any s so) (InputTells-weaker IsId (λ y. Unit {0}) i (λ y r. tt) (input_tells i h))).state.some
+      some : HasSome t.phase t.known
+      some = (seat_knows (λ y. Unit {0}) s i (step s i) seat (λ e. tt) (knows_any s so)
+          (InputTells-weaker IsId (λ y. Unit {0}) i (λ y r. tt) (input_tells i h))).state.some

@@ -1,7 +1,7 @@
 pub mod Asked
-pub mod Awaited
 pub mod Pledged
 pub mod Inputs
-pub mod Gives
+pub mod Stepped
 pub mod Rows
+pub mod Served
 pub mod Replies

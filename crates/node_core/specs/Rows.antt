@@ -1,5 +1,6 @@
 -- What it means that a row was planned.
-use Rattle.std.specs.Prelude.{ℕ, List, Result, IfOk}
+use Rattle.std.specs.Prelude.{List, Result, IfOk}
+use Rattle.ring_math.specs.Names.{Id}
 use Rattle.ring_math.specs.declared.memory.OutOfMemory.{OutOfMemory}
 use Rattle.overlay_rules.specs.State.{State}
 use Rattle.overlay_rules.specs.Outcome.{Outcome}
@@ -13,4 +14,4 @@ use Rattle.node_parts.specs.Plans.{Plans}
 -- for each state that the node shows, what was prepared is the row's outcome, once the command's number waits
 abbrev pub IsRow : Node → Wait → (State → Outcome) → Result Prepared OutOfMemory → Type 0
 IsRow n wait row result =
-    (known : List ℕ) → Shows n known → IfOk result (λ p. Plans (seen n known) p (row (waited wait (seen n known))))
+    (known : List Id) → Shows n known → IfOk result (λ p. Plans (seen n known) p (row (waited wait (seen n known))))

@@ -23,8 +23,9 @@ use crate::joins::finishing::{on_announce, on_grant};
 use crate::joins::gates::{on_confirm, on_release};
 use crate::joins::leasing::on_lease_request;
 use crate::joins::probing::{on_join_reply, on_probe, on_probe_reply};
+use crate::request::Request;
 use gate_core::Gate;
-use node_parts::{Change, Node, Prepared, Wait, quietly};
+use node_parts::{Change, Node, Prepared};
 use ring_math::{Id, OutOfMemory};
 use std::alloc::Global;
 use wire_msg::{Command, Message};
@@ -35,7 +36,8 @@ fn on_message(
     from: Id,
     message: &Message,
 ) -> Result<Prepared, OutOfMemory>
-    ensures { (known : List ℕ) → Shows node.now known → IfOk result (λ p. Plans (seen node.now known) p (on_message_of (seen node.now known) from (plain message.now))) }
+    ensures { (known : List ℕ) → Shows node.now known →
+        IfOk result (λ p. Plans (seen node.now known) p (on_message_of (seen node.now known) from (plain message.now))) }
 {
     match message {
         Message::Lookup {
@@ -43,7 +45,10 @@ fn on_message(
             number,
             key,
             hops,
-        } => on_lookup(node, alloc, Wait::Keep, *origin, *number, *key, *hops),
+        } => {
+            let request = Request::on_its_way(*origin, *number);
+            on_lookup(node, alloc, &request, *key, *hops)
+        }
         Message::Insert {
             origin,
             number,
@@ -52,30 +57,27 @@ fn on_message(
             copies,
             bytes,
         } => {
-            on_insert(
-                node,
-                alloc,
-                Wait::Keep,
-                *origin,
-                *number,
-                *hops,
-                file,
-                *copies,
-                bytes,
-            )
+            let request = Request::on_its_way(*origin, *number);
+            on_insert(node, alloc, &request, *hops, file, *copies, bytes)
         }
         Message::Fetch {
             origin,
             number,
             hops,
             file,
-        } => on_fetch(node, alloc, Wait::Keep, *origin, *number, *hops, file),
+        } => {
+            let request = Request::on_its_way(*origin, *number);
+            on_fetch(node, alloc, &request, *hops, file)
+        }
         Message::Reclaim {
             origin,
             number,
             hops,
             file,
-        } => on_reclaim(node, alloc, Wait::Keep, *origin, *number, *hops, file),
+        } => {
+            let request = Request::on_its_way(*origin, *number);
+            on_reclaim(node, alloc, &request, *hops, file)
+        }
         Message::LookupReply { number, reply } => on_reply(node, alloc, *number, reply),
         Message::InsertReply { number, reply } => on_reply(node, alloc, *number, reply),
         Message::FetchReply { number, reply } => on_reply(node, alloc, *number, reply),
@@ -108,13 +110,13 @@ fn on_message(
             left,
             right,
         } => {
-            let request = Gate {
+            let gate = Gate {
                 joiner: from,
                 attempt: *attempt,
                 left: *left,
                 right: *right,
             };
-            on_lease_request(node, alloc, &request)
+            on_lease_request(node, alloc, &gate)
         }
         Message::Grant {
             attempt,
@@ -134,30 +136,32 @@ fn on_command(
     number: u64,
     command: &Command,
 ) -> Result<Prepared, OutOfMemory>
-    ensures { (known : List ℕ) → Shows node.now known → IfOk result (λ p. Plans (seen node.now known) p (on_command_of (seen node.now known) number command.now)) }
+    ensures { (known : List ℕ) → Shows node.now known →
+        IfOk result (λ p. Plans (seen node.now known) p (on_command_of (seen node.now known) number command.now)) }
 {
-    let wait = Wait::Add { number };
+    let request = Request::own(node.me, number);
     match command {
         Command::Join { via } => on_join(node, alloc, number, *via),
         Command::GiveUp => on_give_up(node, alloc, number),
-        Command::Lookup { key } => on_lookup(node, alloc, wait, node.me, number, *key, 0),
+        Command::Lookup { key } => on_lookup(node, alloc, &request, *key, 0),
         Command::Insert {
             file,
             copies,
             bytes,
-        } => on_insert(node, alloc, wait, node.me, number, 0, file, *copies, bytes),
-        Command::Fetch { file } => on_fetch(node, alloc, wait, node.me, number, 0, file),
-        Command::Reclaim { file } => on_reclaim(node, alloc, wait, node.me, number, 0, file),
+        } => on_insert(node, alloc, &request, 0, file, *copies, bytes),
+        Command::Fetch { file } => on_fetch(node, alloc, &request, 0, file),
+        Command::Reclaim { file } => on_reclaim(node, alloc, &request, 0, file),
     }
 }
 
 /// What the step at this input sends, notes and changes. Nothing changes yet.
 pub(crate) fn plan(node: &Node, alloc: Global, input: &Input) -> Result<Prepared, OutOfMemory>
-    ensures { (known : List ℕ) → Shows node.now known → IfOk result (λ p. Plans (seen node.now known) p (step_of (seen node.now known) (plain_input input.now))) }
+    ensures { (known : List ℕ) → Shows node.now known →
+        IfOk result (λ p. Plans (seen node.now known) p (step_of (seen node.now known) (plain_input input.now))) }
 {
     match input {
         Input::Command { number, command } => on_command(node, alloc, *number, command),
         Input::Message { sender, message } => on_message(node, alloc, *sender, message),
-        Input::Noise => Ok(quietly(alloc, Change::nothing())),
+        Input::Noise => Ok(Prepared::quiet(alloc, Change::nothing())),
     }
 }

@@ -6,6 +6,5 @@ pub(crate) mod handover;
 pub(crate) mod insert;
 pub(crate) mod lookup;
 pub(crate) mod reclaim;
-pub(crate) mod refused;
 pub(crate) mod replicas;
 pub(crate) mod replies;

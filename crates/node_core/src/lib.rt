@@ -5,8 +5,9 @@ mod dispatch;
 mod files;
 mod input;
 mod joins;
+mod laws;
 mod node;
-mod range;
+mod request;
 
 pub use input::{Input, Output};
 pub use node::Node;

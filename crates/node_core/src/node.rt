@@ -11,12 +11,12 @@ ghost use Rattle.node_parts.specs.Plans.{Plans};
 ghost use Rattle.node_parts.specs.Seen.{Stands};
 ghost use Rattle.node_parts.specs.Sound.{IsSound};
 ghost use Rattle.node_parts.specs.Views.{reach_of, hop_of};
-ghost use Rattle.node_core.specs.Gives.{Gives};
 ghost use Rattle.node_core.specs.Inputs.{plain_input};
+ghost use Rattle.node_core.specs.Stepped.{Stepped};
 
 use crate::dispatch::plan;
 use crate::input::{Input, Output};
-use crate::range::input_is_in_range;
+use crate::laws::input_law;
 use coverage::{Hop, Reach};
 use node_parts::{Change, Node as Parts, Prepared};
 use ring_math::{FileId, Id, OutOfMemory};
@@ -109,13 +109,16 @@ impl Node {
         ensures plans { (s : State) → Stands self.old s → IfOk result (λ p. Plans s p (step_of s (plain_input input.now))) }
         ensures sound { (s : State) → Stands self.old s → IsSound (step_of s (plain_input input.now)).state }
     {
-        input_is_in_range(input);
+        input_law(input);
         let prepared = plan(&self.parts, alloc, input)?;
         self.parts.make_room(&prepared.change)?;
         Ok(prepared)
     }
 
     /// The change of a step that was prepared is made. It takes no memory.
+    ///
+    /// It is there for who keeps nodes and records their steps, as a world does: the change is to be the one that `prepare`
+    /// answered last, and nothing is to come between. A step that is of no such record is made by `step`.
     pub fn commit(&mut self, change: Change)
         requires { Fits self.old change }
         ensures me { self.new.me ≡ self.old.me }
@@ -128,7 +131,7 @@ impl Node {
     /// output is that step's messages and notes. After `OutOfMemory` it stands for what it stood for.
     pub fn step(&mut self, alloc: Global, input: &Input) -> Result<Output, OutOfMemory>
         ensures me { self.new.me ≡ self.old.me }
-        ensures ok { (s : State) → Stands self.old s → IfOk result (λ out. Gives self.new out (step_of s (plain_input input.now))) }
+        ensures ok { (s : State) → Stands self.old s → IfOk result (λ out. Stepped self.new out (step_of s (plain_input input.now))) }
         ensures err { OnErr result ((s : State) → Stands self.old s → Stands self.new s) }
     {
         let Prepared {

@@ -22,7 +22,8 @@ stands n known h = record { shows = h; same = refl }
 pub sound : (n : Node) (s : State) → Stands n s → IsSound s
 sound n s st = subst IsSound (sym st.same) st.shows.sound
 
-pub reach-some : (n : Node) (s : State) (l r : ℕ) (x : Reach) → Stands n s → Some (l, r) ≡ links_in n.seat → x ≡ reach (seen n s.known) l r → Some x ≡ reach_of s
+pub reach-some : (n : Node) (s : State) (l r : ℕ) (x : Reach) → Stands n s → Some (l, r) ≡ links_in n.seat → x ≡ reach (seen n s.known) l r →
+    Some x ≡ reach_of s
 reach-some n s l r x st e h =
     subst (λ (t : State). Some x ≡ reach_of t) (sym st.same) (ap Some h ∙ ap (reach_by (seen n s.known)) e)
 

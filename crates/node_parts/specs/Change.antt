@@ -1,5 +1,6 @@
 -- What a change makes of a state, part by part.
-use Rattle.std.specs.Prelude.{ℕ, not, ◌||◌, if◌then◌else◌, Option, Some, None, List, [], ◌∷◌, ◌++◌, filter, ◌==◌}
+use Rattle.std.specs.Prelude.{not, ◌||◌, if◌then◌else◌, Option, Some, None, List, [], ◌∷◌, ◌++◌, filter, ◌==◌}
+use Rattle.ring_math.specs.Names.{Id, Number, FileId}
 use Rattle.ring_math.specs.Sides.{learn, learn_all}
 use Rattle.ring_math.specs.declared.file.Held.{Held}
 use Rattle.ring_math.specs.Files.{Slot, with_slot, has_entry, has_room, buried_all}
@@ -28,7 +29,7 @@ use Rattle.node_parts.specs.Seats.{phase_to, granted_phase}
 abbrev pub phase_after : SeatChange → Phase → Phase
 phase_after seat.Keep p = p
 phase_after (seat.To joiner) p = phase_to joiner.value p
-phase_after (seat.Granted handed) p = granted_phase handed.value.left handed.value.right p
+phase_after (seat.Granted given) p = granted_phase given.value p
 phase_after (seat.Ready a l r) p = Ready a l r
 
 abbrev pub gate_after : GateChange → Option Lease → Option Lease
@@ -36,14 +37,14 @@ gate_after gate.Keep g = g
 gate_after gate.Clear g = None
 gate_after (gate.Set new) g = Some new.value
 
-abbrev pub known_after : ℕ → Learn → List ℕ → List ℕ
+abbrev pub known_after : Id → Learn → List Id → List Id
 known_after me learns.Nothing known = known
 known_after me (learns.One y) known = learn me known y
 known_after me (learns.Two y z) known = learn me (learn me known y) z
 known_after me (learns.All ids) known = learn_all me known ids
 
 -- the slot is set, unless there is neither an entry for the file nor room for one
-abbrev pub set_in : List Held → List ℕ → Slot → List Held
+abbrev pub set_in : List Held → FileId → Slot → List Held
 set_in files file slot = if has_entry files file || has_room files then with_slot files file slot else files
 
 abbrev pub files_after : StoreChange → List Held → List Held
@@ -59,7 +60,7 @@ pending_after (past.Hear place awaited) ps = heard_at ps place awaited
 pending_after (past.Leave reach joiner) ps = filter (λ p. not (is_left_to reach.value joiner p)) ps
 pending_after (past.End file) ps = filter (λ p. not (is_of file p)) ps
 
-abbrev pub waiting_after : Wait → List ℕ → List ℕ
+abbrev pub waiting_after : Wait → List Number → List Number
 waiting_after wait.Keep ns = ns
 waiting_after (wait.Add n) ns = ns ++ n ∷ []
 waiting_after (wait.Take n) ns = filter (λ m. not (m == n)) ns

@@ -1,6 +1,7 @@
 -- The room that a change needs.
 use Rattle.std.specs.Prelude.{◌≤◌, ◌+◌, ℕ, Option, Some, None, length, min, vec_len, vec_capacity}
 use Rattle.ring_math.specs.Files.{buried_all}
+use Rattle.ring_math.specs.declared.limits.TheConstants.{MOST_ENTRIES}
 use Rattle.file_store.specs.Store.{Store}
 use Rattle.std.specs.Global.{Box}
 use Rattle.node_parts.specs.declared.change.Change.{Change}
@@ -16,7 +17,7 @@ use Rattle.node_parts.specs.declared.node.Node.{Node}
 -- the entries that may stand afterwards have room
 abbrev pub StoreFits : Store → StoreChange → Type 0
 StoreFits s store.Keep = Unit {0}
-StoreFits s (store.Set file slot) = min (length s.files + 1) 4096 ≤ s.room
+StoreFits s (store.Set file slot) = min (length s.files + 1) MOST_ENTRIES ≤ s.room
 StoreFits s (store.Bury tombs) = length (buried_all s.files tombs.files) ≤ s.room
 
 -- how many inserts more may wait

@@ -1,21 +1,23 @@
 -- The phase that a node's joiner, what it takes over and its links show.
-use Rattle.std.specs.Prelude.{ℕ, Option, Some, None}
+use Rattle.std.specs.Prelude.{Option, Some, None}
+use Rattle.ring_math.specs.Names.{Id}
 use Rattle.coverage.specs.GapFiles.{Lists}
 use Rattle.overlay_rules.specs.State.{Phase}
 use Rattle.overlay_rules.specs.State as phase
+use Rattle.replica_handover.specs.Taken.{Taken, kept_or}
 use Rattle.join_core.specs.declared.joiner.Joiner.{Joiner}
 use Rattle.join_core.specs.declared.joiner.Joiner.TheVariants.{Waiting, Asking, Probing, Leasing, Done}
 
 -- the lists that came from each side show in Leasing alone, and the links in Ready alone
-abbrev pub phase_of : Joiner → Option Lists → Option Lists → ℕ → ℕ → Phase
-phase_of (Waiting a) from_left from_right left right = phase.Waiting a
-phase_of (Asking a n) from_left from_right left right = phase.Asking a n
-phase_of (Probing a n probed) from_left from_right left right = phase.Probing a n probed
-phase_of (Leasing a n l r on_left on_right) from_left from_right left right = phase.Leasing a n l r from_left from_right
-phase_of (Done a) from_left from_right left right = phase.Ready a left right
+abbrev pub phase_of : Joiner → Taken → Id → Id → Phase
+phase_of (Waiting a) taking left right = phase.Waiting a
+phase_of (Asking a n) taking left right = phase.Asking a n
+phase_of (Probing a n probed) taking left right = phase.Probing a n probed
+phase_of (Leasing a n l r on_left on_right) taking left right = phase.Leasing a n l r taking.left taking.right
+phase_of (Done a) taking left right = phase.Ready a left right
 
 -- the links of a ready node
-abbrev pub links_in : Phase → Option (ℕ × ℕ)
+abbrev pub links_in : Phase → Option (Id × Id)
 links_in (phase.Ready a l r) = Some (l, r)
 links_in (phase.Waiting a) = None
 links_in (phase.Asking a n) = None
@@ -37,6 +39,10 @@ right_lists (phase.Asking a n) = None
 right_lists (phase.Probing a n probed) = None
 right_lists (phase.Ready a l r) = None
 
+-- what both neighbours have pledged
+abbrev pub taken_of : Phase → Taken
+taken_of p = record { left = left_lists p; right = right_lists p }
+
 -- the phase once the joiner is this: a lease asked for has no lists yet, and a join is done with its links, which is said otherwise
 abbrev pub phase_to : Joiner → Phase → Phase
 phase_to (Waiting a) p = phase.Waiting a
@@ -45,15 +51,11 @@ phase_to (Probing a n probed) p = phase.Probing a n probed
 phase_to (Leasing a n l r on_left on_right) p = phase.Leasing a n l r None None
 phase_to (Done a) p = p
 
--- the first lists of a side are kept
-abbrev pub kept_or : Option Lists → Option Lists → Option Lists
-kept_or (Some old) new = Some old
-kept_or None new = new
-
-abbrev pub granted_phase : Option Lists → Option Lists → Phase → Phase
-granted_phase new_left new_right (phase.Leasing a n l r from_left from_right) =
-    phase.Leasing a n l r (kept_or from_left new_left) (kept_or from_right new_right)
-granted_phase new_left new_right (phase.Waiting a) = phase.Waiting a
-granted_phase new_left new_right (phase.Asking a n) = phase.Asking a n
-granted_phase new_left new_right (phase.Probing a n probed) = phase.Probing a n probed
-granted_phase new_left new_right (phase.Ready a l r) = phase.Ready a l r
+-- what the sides pledge is kept, on each side that had pledged nothing
+abbrev pub granted_phase : Taken → Phase → Phase
+granted_phase given (phase.Leasing a n l r from_left from_right) =
+    phase.Leasing a n l r (kept_or from_left given.left) (kept_or from_right given.right)
+granted_phase given (phase.Waiting a) = phase.Waiting a
+granted_phase given (phase.Asking a n) = phase.Asking a n
+granted_phase given (phase.Probing a n probed) = phase.Probing a n probed
+granted_phase given (phase.Ready a l r) = phase.Ready a l r

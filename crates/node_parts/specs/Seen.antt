@@ -1,13 +1,14 @@
 -- The states that a node stands for. Its parts determine all of a state but the list of identifiers that it learnt, of which it
 -- keeps the leaves and the prefix table.
-use Rattle.std.specs.Prelude.{◌≡◌, ℕ, List}
+use Rattle.std.specs.Prelude.{◌≡◌, List}
+use Rattle.ring_math.specs.Names.{Id}
 use Rattle.overlay_rules.specs.State.{State}
 use Rattle.lookup_core.specs.Kept.{StandsFor}
 use Rattle.node_parts.specs.declared.node.Node.{Node}
 use Rattle.node_parts.specs.Sound.{IsSound}
 
 -- the state, where the node has learnt this list
-abbrev pub seen : Node → List ℕ → State
+abbrev pub seen : Node → List Id → State
 seen n known =
     record {
       me = n.me;
@@ -21,7 +22,7 @@ seen n known =
     }
 
 -- the node may have learnt this list
-pub record Shows (n : Node) (known : List ℕ) : Type 0 where
+pub record Shows (n : Node) (known : List Id) : Type 0 where
   pub keeps : StandsFor n.known known
   pub sound : IsSound (seen n known)
 

@@ -13,14 +13,14 @@ ghost use Rattle.node_parts.specs.Plans.{Plans};
 ghost use Rattle.node_parts.specs.Seats.{phase_to, granted_phase};
 
 use crate::change::{
-    Change, GateChange, Handed, Learn, PastChange, Prepared, Rest, SeatChange, StoreChange, Wait,
+    Change, GateChange, Learn, PastChange, Prepared, Rest, SeatChange, StoreChange, Wait,
 };
-use crate::lease::Lists;
 use join_core::Joiner;
 use overlay_rules::Asked;
+use replica_handover::Taking;
 use ring_math::{Id, OutOfMemory};
 use std::alloc::Global;
-use wire_msg::{Answer, Message, Note, Notes, Outgoing, Reply, Sends};
+use wire_msg::{Answer, MOST_HOPS, Message, Note, Notes, Outgoing, Reply, Sends};
 
 impl Change {
     /// Nothing but what waits.
@@ -94,16 +94,11 @@ impl Change {
     }
 
     /// What neighbours hand over is kept, and the files.
-    pub fn granted(
-        alloc: Global,
-        left: Option<Lists>,
-        right: Option<Lists>,
-        store: StoreChange,
-    ) -> Result<Change, OutOfMemory>
-        ensures { (s : State) → IfOk result (λ change. changed change s ≡ record s { phase = granted_phase left right s.phase; files = files_after store s.files }) }
+    pub fn granted(alloc: Global, given: Taking, store: StoreChange) -> Result<Change, OutOfMemory>
+        ensures { (s : State) → IfOk result (λ change. changed change s ≡ record s { phase = granted_phase given s.phase; files = files_after store s.files }) }
     {
-        let handed = Box::new(alloc, Handed { left, right })?;
-        Change::seats_and_files(alloc, SeatChange::Granted(handed), store)
+        let boxed = Box::new(alloc, given)?;
+        Change::seats_and_files(alloc, SeatChange::Granted(boxed), store)
     }
 
     /// The gates.
@@ -112,7 +107,8 @@ impl Change {
         left_gate: GateChange,
         right_gate: GateChange,
     ) -> Result<Change, OutOfMemory>
-        ensures { (s : State) → IfOk result (λ change. changed change s ≡ record s { left_gate = gate_after left_gate s.left_gate; right_gate = gate_after right_gate s.right_gate }) }
+        ensures { (s : State) → IfOk result (λ change. changed change s
+            ≡ record s { left_gate = gate_after left_gate s.left_gate; right_gate = gate_after right_gate s.right_gate }) }
     {
         let rest = Rest {
             seat: SeatChange::Keep,
@@ -132,7 +128,8 @@ impl Change {
         past: PastChange,
         waiting: Wait,
     ) -> Result<Change, OutOfMemory>
-        ensures { (s : State) → IfOk result (λ change. changed change s ≡ record (waited waiting s) { files = files_after store s.files; pending = pending_after past s.pending }) }
+        ensures { (s : State) → IfOk result (λ change. changed change s ≡ record
+            (waited waiting s) { files = files_after store s.files; pending = pending_after past s.pending }) }
     {
         let rest = Rest {
             seat: SeatChange::Keep,
@@ -146,11 +143,11 @@ impl Change {
     }
 }
 
-/// One hop more, up to 65,535.
+/// One hop more, up to [`MOST_HOPS`].
 pub fn one_more(hops: u16) -> u16
     ensures { result ≡ one_more_of hops }
 {
-    if hops == u16::MAX { hops } else { hops + 1 }
+    if hops == MOST_HOPS { hops } else { hops + 1 }
 }
 
 /// The reply to a command, as a message.
@@ -165,115 +162,118 @@ pub fn reply_in(what: Asked, number: u64, reply: Reply) -> Message
     }
 }
 
-/// Nothing is sent or noted.
-pub fn quietly(alloc: Global, change: Change) -> Prepared
-    ensures { (s t : State) → changed change s ≡ t → Plans s result (nothing t) }
-{
-    Prepared {
-        messages: Sends::new(alloc),
-        notes: Notes::new(alloc),
-        change,
+impl Prepared {
+    /// Nothing is sent or noted.
+    pub fn quiet(alloc: Global, change: Change) -> Prepared
+        ensures { (s t : State) → changed change s ≡ t → Plans s result (nothing t) }
+    {
+        Prepared {
+            messages: Sends::new(alloc),
+            notes: Notes::new(alloc),
+            change,
+        }
     }
-}
 
-/// One message is sent.
-pub fn sending(
-    alloc: Global,
-    change: Change,
-    receiver: Id,
-    message: Message,
-) -> Result<Prepared, OutOfMemory>
-    ensures { (s t : State) → changed change s ≡ t → IfOk result (λ p. Plans s p (becomes t (sent receiver (plain message) ∷ []) [])) }
-{
-    let mut messages = Sends::new(alloc);
-    messages.push(Outgoing { receiver, message })?;
-    Ok(Prepared {
-        messages,
-        notes: Notes::new(alloc),
-        change,
-    })
-}
+    /// One message is sent.
+    pub fn sending(
+        alloc: Global,
+        change: Change,
+        receiver: Id,
+        message: Message,
+    ) -> Result<Prepared, OutOfMemory>
+        ensures { (s t : State) → changed change s ≡ t → IfOk result (λ p. Plans s p (becomes t (sent receiver (plain message) ∷ []) [])) }
+    {
+        let mut messages = Sends::new(alloc);
+        messages.push(Outgoing { receiver, message })?;
+        Ok(Prepared {
+            messages,
+            notes: Notes::new(alloc),
+            change,
+        })
+    }
 
-/// A command of the node itself is closed, and these are sent.
-pub fn closing(
-    alloc: Global,
-    change: Change,
-    messages: Sends,
-    number: u64,
-    answer: Answer,
-) -> Result<Prepared, OutOfMemory>
-    ensures { (s t : State) → changed change s ≡ t → IfOk result (λ p. Plans s p (becomes t messages (note.Closed number answer ∷ []))) }
-{
-    let mut notes = Notes::new(alloc);
-    notes.push(Note::Closed { number, answer })?;
-    Ok(Prepared {
-        messages,
-        notes,
-        change,
-    })
-}
+    /// A command of the node itself is closed, and these are sent.
+    pub fn closing(
+        alloc: Global,
+        change: Change,
+        messages: Sends,
+        number: u64,
+        answer: Answer,
+    ) -> Result<Prepared, OutOfMemory>
+        ensures { (s t : State) → changed change s ≡ t → IfOk result (λ p. Plans s p (becomes t messages (note.Closed number answer ∷ []))) }
+    {
+        let mut notes = Notes::new(alloc);
+        notes.push(Note::Closed { number, answer })?;
+        Ok(Prepared {
+            messages,
+            notes,
+            change,
+        })
+    }
 
-/// A command is replied, after these messages and notes.
-pub fn replied_after(
-    alloc: Global,
-    first: Prepared,
-    what: Asked,
-    origin: Id,
-    number: u64,
-    reply: Reply,
-) -> Result<Prepared, OutOfMemory>
-    ensures { (s t : State) → changed first.change s ≡ t → IfOk result (λ p. Plans s p (before first.messages first.notes (replied_of t what origin number reply))) }
-{
-    let Prepared {
-        mut messages,
-        mut notes,
-        change,
-    } = first;
-    let noted = reply.copy(alloc)?;
-    notes.push(Note::Answered {
-        origin,
-        number,
-        reply: noted,
-    })?;
-    messages.push(Outgoing {
-        receiver: origin,
-        message: reply_in(what, number, reply),
-    })?;
-    Ok(Prepared {
-        messages,
-        notes,
-        change,
-    })
-}
+    /// A command is replied.
+    pub fn replied(
+        alloc: Global,
+        change: Change,
+        what: Asked,
+        origin: Id,
+        number: u64,
+        reply: Reply,
+    ) -> Result<Prepared, OutOfMemory>
+        ensures { (s t : State) → changed change s ≡ t → IfOk result (λ p. Plans s p (replied_of t what origin number reply)) }
+    {
+        let mut notes = Notes::new(alloc);
+        let noted = reply.copy(alloc)?;
+        notes.push(Note::Answered {
+            origin,
+            number,
+            reply: noted,
+        })?;
+        let mut messages = Sends::new(alloc);
+        messages.push(Outgoing {
+            receiver: origin,
+            message: reply_in(what, number, reply),
+        })?;
+        Ok(Prepared {
+            messages,
+            notes,
+            change,
+        })
+    }
 
-/// A command is replied.
-pub fn replied(
-    alloc: Global,
-    change: Change,
-    what: Asked,
-    origin: Id,
-    number: u64,
-    reply: Reply,
-) -> Result<Prepared, OutOfMemory>
-    ensures { (s t : State) → changed change s ≡ t → IfOk result (λ p. Plans s p (replied_of t what origin number reply)) }
-{
-    let mut notes = Notes::new(alloc);
-    let noted = reply.copy(alloc)?;
-    notes.push(Note::Answered {
-        origin,
-        number,
-        reply: noted,
-    })?;
-    let mut messages = Sends::new(alloc);
-    messages.push(Outgoing {
-        receiver: origin,
-        message: reply_in(what, number, reply),
-    })?;
-    Ok(Prepared {
-        messages,
-        notes,
-        change,
-    })
+    /// A command is replied besides, behind what is sent and noted already.
+    pub fn and_replied(
+        self,
+        alloc: Global,
+        what: Asked,
+        origin: Id,
+        number: u64,
+        reply: Reply,
+    ) -> Result<Prepared, OutOfMemory>
+        ensures { (s t : State) → changed self.change s ≡ t →
+            IfOk result (λ p. Plans s p (before self.messages self.notes (replied_of t what origin number reply))) }
+    {
+        let Prepared {
+            mut messages,
+            mut notes,
+            change,
+        } = self;
+        let noted = reply.copy(alloc)?;
+        notes.push(Note::Answered {
+            origin,
+            number,
+            reply: noted,
+        })?;
+        messages.push(Outgoing {
+            receiver: origin,
+            message: reply_in(what, number, reply),
+        })?;
+        Ok(Prepared {
+            messages,
+            notes,
+            change,
+        })
+    }
 }
 
 /// The same message to each of these, behind the messages that are there.

@@ -1,19 +1,13 @@
 //! What a step will change, as data.
 #![tactic(auto)]
 
-use crate::lease::{Lease, Lists};
+use crate::lease::Lease;
 use coverage::Reach;
 use join_core::Joiner;
 use overlay_rules::Pending;
+use replica_handover::Taking;
 use ring_math::{Bytes, FileId, FileIds, Id, Ids};
 use wire_msg::{Notes, Sends};
-
-/// What neighbours hand over to a joiner, each on its side.
-#[derive(Drop)]
-pub struct Handed {
-    pub left: Option<Lists>,
-    pub right: Option<Lists>,
-}
 
 /// What becomes of the phase.
 #[derive(Drop)]
@@ -22,7 +16,7 @@ pub enum SeatChange {
     /// A join begins, goes on or ends. Leases are asked for with no lists yet; of a join that is done nothing is changed.
     To(Box<Joiner>),
     /// What neighbours hand over is kept, on each side that had nothing.
-    Granted(Box<Handed>),
+    Granted(Box<Taking>),
     /// It has joined by this attempt, with these links.
     Ready { attempt: u32, left: Id, right: Id },
 }
@@ -78,7 +72,8 @@ pub enum Wait {
     Take { number: u64 },
 }
 
-/// What a step changes of a node besides the numbers that wait.
+/// What a step changes of a node besides the numbers that wait. Its fields are there for the rows that plan a step and for
+/// `commit`, which makes it; who drives nodes hands a change on as it is.
 #[derive(Drop)]
 pub struct Rest {
     pub seat: SeatChange,
@@ -90,7 +85,7 @@ pub struct Rest {
 }
 
 /// What a step changes of a node. Most steps change the numbers that wait at most, so the rest is boxed: a change is moved
-/// often, and is to be small.
+/// often, and is to be small. Its fields are there for the rows that plan a step and for `commit`, as those of `Rest`.
 #[derive(Drop)]
 pub struct Change {
     pub rest: Option<Box<Rest>>,

@@ -8,16 +8,14 @@ ghost use Rattle.node_parts.specs.Fits.{Fits, RestFits, StoreFits, asks_more, wa
 ghost use Rattle.node_parts.specs.Seen.{Stands};
 ghost use Rattle.node_parts.specs.Sound.{IsSound};
 
-use crate::change::{
-    Change, GateChange, Handed, Learn, PastChange, Rest, SeatChange, StoreChange, Wait,
-};
+use crate::change::{Change, GateChange, Learn, PastChange, Rest, SeatChange, StoreChange, Wait};
 use crate::lease::Lease;
 use crate::node::Node;
 use crate::seat::Seat;
 use file_store::FileStore;
 use lookup_core::Knowledge;
 use past_core::Past;
-use ring_math::{Bytes, FileId};
+use ring_math::{Bytes, FileId, MOST_ENTRIES};
 
 fn change_seat(seat: &mut Seat, change: SeatChange)
     ensures { seat.new ≡ phase_after change seat.old }
@@ -25,10 +23,7 @@ fn change_seat(seat: &mut Seat, change: SeatChange)
     match change {
         SeatChange::Keep => {}
         SeatChange::To(joiner) => seat.go_to(Box::into_inner(joiner)),
-        SeatChange::Granted(handed) => {
-            let Handed { left, right } = Box::into_inner(handed);
-            seat.grant(left, right);
-        }
+        SeatChange::Granted(given) => seat.grant(Box::into_inner(given)),
         SeatChange::Ready {
             attempt,
             left,
@@ -63,7 +58,7 @@ fn set_slot(store: &mut FileStore, file: FileId, slot: Option<Bytes>)
     requires { StoreFits store.old (StoreChange.Set file slot) }
     ensures { store.new.files ≡ files_after (StoreChange.Set file slot) store.old.files }
 {
-    if store.slot(&file).is_some() || store.entries() < 4096 {
+    if store.slot(&file).is_some() || store.entries() < MOST_ENTRIES {
         store.set(file, slot);
     }
 }
@@ -115,7 +110,7 @@ fn change_waiting(waiting: &mut Vec<u64>, change: Wait)
 }
 
 impl Node {
-    /// The change is made. It takes no memory: room was made before.
+    /// The change is made. It takes no memory: room was made before. It is for node_core alone, which plans the change.
     pub fn commit(&mut self, change: Change)
         requires { Fits self.old change }
         ensures me { self.new.me ≡ self.old.me }

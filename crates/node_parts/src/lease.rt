@@ -1,45 +1,19 @@
 //! A gate with what its joiner takes over.
 
 ghost use Rattle.std.specs.Prelude.{◌≡◌, IfOk};
-ghost use Rattle.overlay_rules.specs.Gates.{is_of, is_older, is_gate_of, unless};
 ghost use Rattle.overlay_rules.specs.State.{bare, joiner_of};
 
 use gate_core::Gate;
-use ring_math::{FileIds, Id, OutOfMemory};
+use replica_handover::Pledge;
+use ring_math::{Id, OutOfMemory};
 use std::alloc::Global;
 use std::marker::Model;
 
-/// What a gatekeeper hands over with a lease: the files with bytes, and the tombstones.
-#[derive(Drop)]
-pub struct Lists {
-    pub manifest: FileIds,
-    pub tombs: FileIds,
-}
-
-impl Model for Lists {
-    ghost use Rattle.coverage.specs.GapFiles.{Lists as GapLists};
-
-    ghost Value = { GapLists };
-
-    ghost view = { λ a. record { manifest = a.manifest.files; tombs = a.tombs.files } };
-}
-
-impl Lists {
-    /// The same in memory of its own.
-    pub fn copy(&self, alloc: Global) -> Result<Lists, OutOfMemory>
-        ensures { IfOk result (λ copy. copy ≡ self.now) }
-    {
-        let manifest = self.manifest.copy(alloc)?;
-        let tombs = self.tombs.copy(alloc)?;
-        Ok(Lists { manifest, tombs })
-    }
-}
-
-/// A lease that a ready node gave, and the lists that it gave with it.
+/// A lease that a ready node gave, and what it hands over with it.
 #[derive(Drop)]
 pub struct Lease {
     pub gate: Gate,
-    pub lists: Lists,
+    pub lists: Pledge,
 }
 
 impl Model for Lease {

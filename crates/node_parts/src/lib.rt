@@ -12,14 +12,11 @@ mod room;
 mod seat;
 mod view;
 
-pub use build::{
-    closing, one_more, quietly, replied, replied_after, reply_in, send_to_each, sending,
-    sent_to_both,
-};
+pub use build::{one_more, reply_in, send_to_each, sent_to_both};
 pub use change::{
-    Change, GateChange, Handed, Learn, PastChange, Prepared, Rest, SeatChange, StoreChange, Wait,
+    Change, GateChange, Learn, PastChange, Prepared, Rest, SeatChange, StoreChange, Wait,
 };
-pub use lease::{Lease, Lists, bare, joiner_of};
+pub use lease::{Lease, bare, joiner_of};
 pub use node::Node;
 pub use seat::Seat;
 pub use view::{first_left, first_right, leaves_of};

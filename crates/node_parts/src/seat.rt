@@ -1,12 +1,12 @@
 //! Where a node stands in joining: its joiner, what it takes over, and its links.
 
-ghost use Rattle.std.specs.Prelude.{◌≡◌, option_copied, IfOk};
+ghost use Rattle.std.specs.Prelude.{◌≡◌, IfOk};
 ghost use Rattle.overlay_rules.specs.State.{Waiting, Ready, is_ready};
 ghost use Rattle.join_core.specs.Joining.{joiner_of};
-ghost use Rattle.node_parts.specs.Seats.{links_in, left_lists, right_lists, phase_to, kept_or, granted_phase};
+ghost use Rattle.node_parts.specs.Seats.{links_in, taken_of, phase_to, granted_phase};
 
-use crate::lease::Lists;
 use join_core::Joiner;
+use replica_handover::Taking;
 use ring_math::{Id, OutOfMemory};
 use std::alloc::Global;
 use std::marker::Model;
@@ -15,10 +15,8 @@ use std::marker::Model;
 #[derive(Drop)]
 pub struct Seat {
     joiner: Joiner,
-    /// What the left neighbour hands over with its lease.
-    from_left: Option<Lists>,
-    /// What the right neighbour hands over with its lease.
-    from_right: Option<Lists>,
+    /// What the neighbours hand over with their leases.
+    taking: Taking,
     /// The link counterclockwise of a node that has joined.
     left: Id,
     /// The link clockwise of a node that has joined.
@@ -29,13 +27,14 @@ impl Model for Seat {
     ghost use Rattle.std.specs.Prelude.{◌≡◌};
     ghost use Rattle.overlay_rules.specs.State.{Phase};
     ghost use Rattle.join_core.specs.Joining.{joiner_of};
-    ghost use Rattle.node_parts.specs.Seats.{phase_of};
+    ghost use Rattle.node_parts.specs.Seats.{phase_of, taken_of};
 
     ghost Value = { Phase };
 
-    ghost view = { λ a. phase_of a.joiner a.from_left a.from_right a.left a.right };
+    ghost view = { λ a. phase_of a.joiner a.taking a.left a.right };
 
-    ghost invariant = { λ a. joiner_of (phase_of a.joiner a.from_left a.from_right a.left a.right) ≡ a.joiner };
+    ghost invariant = { λ a. (joiner_of (phase_of a.joiner a.taking a.left a.right) ≡ a.joiner)
+        × (taken_of (phase_of a.joiner a.taking a.left a.right) ≡ a.taking) };
 }
 
 impl Seat {
@@ -45,8 +44,7 @@ impl Seat {
     {
         Seat {
             joiner: Joiner::Done { attempt: 0 },
-            from_left: None,
-            from_right: None,
+            taking: Taking::new(),
             left: me,
             right: me,
         }
@@ -58,8 +56,7 @@ impl Seat {
     {
         Seat {
             joiner: Joiner::Waiting { attempt: 1 },
-            from_left: None,
-            from_right: None,
+            taking: Taking::new(),
             left: me,
             right: me,
         }
@@ -89,24 +86,11 @@ impl Seat {
         }
     }
 
-    /// The lists that came from the left neighbour of a lease.
-    pub fn from_left(&self) -> Option<&Lists>
-        ensures { option_copied result ≡ left_lists self.now }
+    /// What the neighbours have handed over with their leases; nothing where no leases are asked for.
+    pub fn taking(&self) -> &Taking
+        ensures { result.now ≡ taken_of self.now }
     {
-        match &self.joiner {
-            Joiner::Leasing { .. } => self.from_left.as_ref(),
-            _ => None,
-        }
-    }
-
-    /// The lists that came from the right neighbour of a lease.
-    pub fn from_right(&self) -> Option<&Lists>
-        ensures { option_copied result ≡ right_lists self.now }
-    {
-        match &self.joiner {
-            Joiner::Leasing { .. } => self.from_right.as_ref(),
-            _ => None,
-        }
+        &self.taking
     }
 
     /// A join begins, goes on or ends: the joiner is this from now on.
@@ -134,16 +118,15 @@ impl Seat {
         };
         *self = Seat {
             joiner,
-            from_left: None,
-            from_right: None,
+            taking: Taking::new(),
             left,
             right,
         };
     }
 
     /// What the neighbours hand over is kept, on each side where nothing was kept before.
-    pub fn grant(&mut self, left: Option<Lists>, right: Option<Lists>)
-        ensures { self.new ≡ granted_phase left right self.old }
+    pub fn grant(&mut self, given: Taking)
+        ensures { self.new ≡ granted_phase given self.old }
     {
         if let Joiner::Leasing {
             from_left,
@@ -151,10 +134,9 @@ impl Seat {
             ..
         } = &mut self.joiner
         {
-            keep(&mut self.from_left, left);
-            keep(&mut self.from_right, right);
-            *from_left = self.from_left.is_some();
-            *from_right = self.from_right.is_some();
+            self.taking.keep(given);
+            *from_left = self.taking.left().is_some();
+            *from_right = self.taking.right().is_some();
         }
     }
 
@@ -164,8 +146,7 @@ impl Seat {
     {
         *self = Seat {
             joiner: Joiner::Done { attempt },
-            from_left: None,
-            from_right: None,
+            taking: Taking::new(),
             left,
             right,
         };
@@ -176,32 +157,12 @@ impl Seat {
         ensures { IfOk result (λ copy. copy ≡ self.now) }
     {
         let joiner = self.joiner.copy(alloc)?;
-        let from_left = copy_of(alloc, &self.from_left)?;
-        let from_right = copy_of(alloc, &self.from_right)?;
+        let taking = self.taking.copy(alloc)?;
         Ok(Seat {
             joiner,
-            from_left,
-            from_right,
+            taking,
             left: self.left,
             right: self.right,
         })
-    }
-}
-
-/// The first that a side hands over is kept.
-fn keep(side: &mut Option<Lists>, new: Option<Lists>)
-    ensures { side.new ≡ kept_or side.old new }
-{
-    if side.is_none() {
-        *side = new;
-    }
-}
-
-fn copy_of(alloc: Global, side: &Option<Lists>) -> Result<Option<Lists>, OutOfMemory>
-    ensures { IfOk result (λ copy. copy ≡ side.now) }
-{
-    match side {
-        Some(lists) => Ok(Some(lists.copy(alloc)?)),
-        None => Ok(None),
     }
 }

@@ -8,7 +8,8 @@ Told-same None P p = record { bytes = tt }
 Told-same (Some xs) P p = record { bytes = p xs }
 
 -- one call after another
-pub Told-then : (a b c : Option (List ℕ)) (P Q R : List ℕ → List ℕ → Type 0) → Told a b P → Told b c Q → ((xs ys zs : List ℕ) → P xs ys → Q ys zs → R xs zs) → Told a c R
+pub Told-then : (a b c : Option (List ℕ)) (P Q R : List ℕ → List ℕ → Type 0) → Told a b P → Told b c Q → ((xs ys zs : List ℕ) → P xs ys → Q ys zs → R xs zs) →
+    Told a c R
 Told-then None b c P Q R p q both = record { bytes = tt }
 Told-then (Some xs) None c P Q R p q both = absurd p.bytes
 Told-then (Some xs) (Some ys) None P Q R p q both = absurd q.bytes

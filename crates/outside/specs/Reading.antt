@@ -22,4 +22,5 @@ pub data Reads {S : Type 0} (gives : S → ℕ → Piece → S → Type 0) (most
   ended : (s t : S) (read room : ℕ) → Offers read most room → gives s room End t → Reads gives most s read (Ok read) t
   failed : (s t : S) (read room : ℕ) → Offers read most room → gives s room Failed t → Reads gives most s read (Err Read) t
   refused : (s t : S) (read room n : ℕ) → Offers read most room → gives s room (Got n) t → Reads gives most s read (Err OutOfMemory) t
-  went_on : (s t u : S) (read room n : ℕ) (outcome : Result ℕ ReadFault) → Offers read most room → gives s room (Got n) t → Reads gives most t (read + n) outcome u → Reads gives most s read outcome u
+  went_on : (s t u : S) (read room n : ℕ) (outcome : Result ℕ ReadFault) → Offers read most room → gives s room (Got n) t →
+      Reads gives most t (read + n) outcome u → Reads gives most s read outcome u

@@ -7,4 +7,5 @@ use Rattle.outside.specs.declared.traits.Taken.TheVariants.{Took, Failed}
 pub data Writes {K E : Type 0} (takes : K → List ℕ → Taken → K → Type 0) : K → List ℕ → Result Unit E → K → Type 0 where
   done : (k : K) (bytes : List ℕ) → bytes ≡ [] → Writes takes k bytes (Ok tt) k
   failed : (k l : K) (bytes : List ℕ) (fault : E) → 0 < length bytes → takes k bytes Failed l → Writes takes k bytes (Err fault) l
-  went_on : (k l m : K) (bytes rest : List ℕ) (n : ℕ) (end : Result Unit E) → 0 < length bytes → takes k bytes (Took n) l → rest ≡ drop n bytes → Writes takes l rest end m → Writes takes k bytes end m
+  went_on : (k l m : K) (bytes rest : List ℕ) (n : ℕ) (end : Result Unit E) → 0 < length bytes → takes k bytes (Took n) l → rest ≡ drop n bytes →
+      Writes takes l rest end m → Writes takes k bytes end m

@@ -1,5 +1,6 @@
 -- What holds of each item of a list, by cases on the list, so that it computes on written lists; std's `All` is by index.
-use Rattle.std.proofs.Common.{◌≡◌, ℕ, zero, suc, Bool, List, [], ◌∷◌, ◌++◌, ◌<◌, map, filter, take, drop, Some, slice_get, get_or, length, Contains, All, refl, subst, arith}
+use Rattle.std.proofs.Common.{◌≡◌, ℕ, zero, suc, Bool, List, [], ◌∷◌, ◌++◌, ◌<◌, map, filter, take, drop, Some, slice_get, get_or, length, Contains, All, refl}
+use Rattle.std.proofs.Common.{subst, arith}
 use Rattle.std.proofs.lemmas.Bool.{cond_both}
 
 abbrev pub Each : {A : Type 0} → (A → Type 0) → List A → Type 0

@@ -1,11 +1,14 @@
 -- Records entry by entry: which entry comes where, what the world is after it, and where each message comes from.
-use Rattle.std.proofs.Common.{◌≡◌, ◌≢◌, ◌⊎◌, inl, inr, ℕ, zero, suc, ◌+◌, ◌-◌, ◌<◌, ◌≤◌, ◌==◌, Some, None, List, [], ◌∷◌, ◌++◌, map, take, length, slice_get, Contains, refl, sym, subst, ap, ◌∙◌, append_assoc, append-nil, length-append, arith}
+use Rattle.std.proofs.Common.{◌≡◌, ◌≢◌, ◌⊎◌, inl, inr, ℕ, zero, suc, ◌+◌, ◌-◌, ◌<◌, ◌≤◌, ◌==◌, Some, None, List, [], ◌∷◌, ◌++◌, map, take, length, slice_get}
+use Rattle.std.proofs.Common.{Contains, refl, sym, subst, ap, ◌∙◌, append_assoc, append-nil, length-append, arith}
 use Rattle.std.proofs.lemmas.Bool.{cond_both, cond-true}
 use Rattle.std.proofs.lemmas.Bool.Decides.{Decides-eqb}
+use Rattle.ring_math.specs.Names.{Id}
 use Rattle.wire_msg.specs.Words.{Envelope, Sent}
 use Rattle.overlay_rules.specs.declared.entry.Entry.{Entry}
 use Rattle.overlay_rules.specs.State.{State}
-use Rattle.overlay_rules.specs.Record.{Setting, World, sent_in, state_at, after, run, unstamped, enveloped, Follows, LegalFrom, Legal, world_at_start, world_after}
+use Rattle.overlay_rules.specs.Record.{Setting, World, sent_in, state_at, after, run, unstamped, enveloped, Follows, LegalFrom, Legal, world_at_start}
+use Rattle.overlay_rules.specs.Record.{world_after}
 use Rattle.overlay_rules.specs.Rightly.{SentBy}
 use Rattle.overlay_rules.proofs.Each.{Each}
 
@@ -26,7 +29,8 @@ pub record IsSentAt (es : List Entry) (m : ℕ) (v : Envelope) : Type 0 where
   pub sent : SentBy es m place
   pub has : Contains entry.messages v
 
-get_append : {A : Type 0} (xs ys : List A) (n : ℕ) (v : A) → slice_get (xs ++ ys) n ≡ Some v → (Contains xs v × (n < length xs)) ⊎ ((length xs ≤ n) × (slice_get ys (n - length xs) ≡ Some v))
+get_append : {A : Type 0} (xs ys : List A) (n : ℕ) (v : A) → slice_get (xs ++ ys) n ≡ Some v →
+    (Contains xs v × (n < length xs)) ⊎ ((length xs ≤ n) × (slice_get ys (n - length xs) ≡ Some v))
 get_append [] ys n v e = inr (omega arith, let same : n - 0 ≡ n = omega arith in rw same e)
 get_append (x ∷ xs) ys zero v e = let same : x ≡ v = cc in inl ((0, omega arith, same), omega arith)
 get_append (x ∷ xs) ys (suc n) v e =
@@ -57,7 +61,8 @@ sent_at (e ∷ es) m v h =
             at = rest.at;
             sent = (
               let long = length-append e.messages (sent_in (take rest.place es)) in omega arith,
-              let long = length-append e.messages (sent_in (take (rest.place + 1) es)) in let next : suc rest.place + 1 ≡ suc (rest.place + 1) = omega arith in rw next (omega arith),
+              let long = length-append e.messages (sent_in (take (rest.place + 1) es)) in let next : suc rest.place + 1 ≡ suc (rest.place + 1) =
+                  omega arith in rw next (omega arith),
             );
             has = rest.has;
           }
@@ -157,26 +162,26 @@ follows_at g es i e l h = follows_from g (world_at_start g) es i e l h
 -- ---- the states of an entry
 
 -- its node has the new state
-pub state_at-itself : (states : ℕ → State) (x : ℕ) (s : State) → state_at states x s x ≡ s
+pub state_at-itself : (states : Id → State) (x : Id) (s : State) → state_at states x s x ≡ s
 state_at-itself states x s = cond-true (x == x) s (states x) ((Decides-eqb x x).1 refl)
 
-pub state_at-other : (states : ℕ → State) (x : ℕ) (s : State) (y : ℕ) → y ≢ x → state_at states x s y ≡ states y
+pub state_at-other : (states : Id → State) (x : Id) (s : State) (y : Id) → y ≢ x → state_at states x s y ≡ states y
 state_at-other states x s y ne = cond_both (y == x) s (states y) (λ t. t ≡ states y) (λ e. absurd (ne ((Decides-eqb y x).0 e))) (λ _. refl)
 
 -- this node or another: what holds of the new state at its node, and of each other state as it was, holds of each
-pub state_at-each : (P : ℕ → State → Type 0) (states : ℕ → State) (x : ℕ) (s : State) (y : ℕ) → P x s → P y (states y) → P y (state_at states x s y)
+pub state_at-each : (P : Id → State → Type 0) (states : Id → State) (x : Id) (s : State) (y : Id) → P x s → P y (states y) → P y (state_at states x s y)
 state_at-each P states x s y here there =
     cond_both (y == x) s (states y) (P y) (λ e. subst (λ z. P z s) (sym ((Decides-eqb y x).0 e)) here) (λ _. there)
 
 -- ---- the messages of an entry, whatever their stamps
 
 -- the envelope is of this message, sent by x
-pub record IsFrom (x : ℕ) (s : Sent) (v : Envelope) : Type 0 where
+pub record IsFrom (x : Id) (s : Sent) (v : Envelope) : Type 0 where
   pub sender : v.sender ≡ x
   pub receiver : v.receiver ≡ s.receiver
   pub message : v.message ≡ s.message
 
-is_from : (x : ℕ) (s : Sent) (v : Envelope) → unstamped v ≡ enveloped 0 x s → IsFrom x s v
+is_from : (x : Id) (s : Sent) (v : Envelope) → unstamped v ≡ enveloped 0 x s → IsFrom x s v
 is_from x s v e = record {
   sender = ap (λ (u : Envelope). u.sender) e;
   receiver = ap (λ (u : Envelope). u.receiver) e;
@@ -184,7 +189,7 @@ is_from x s v e = record {
 }
 
 -- what holds of each message that a step sends holds of each envelope of its entry
-pub each_envelope : (P : Envelope → Type 0) (x : ℕ) (vs : List Envelope) (ss : List Sent) → map unstamped vs ≡ map (enveloped 0 x) ss →
+pub each_envelope : (P : Envelope → Type 0) (x : Id) (vs : List Envelope) (ss : List Sent) → map unstamped vs ≡ map (enveloped 0 x) ss →
     Each (λ s. (v : Envelope) → IsFrom x s v → P v) ss → Each P vs
 each_envelope P x [] ss e h = tt
 each_envelope P x (v ∷ vs) [] e h = cc

@@ -4,5 +4,5 @@ pub mod OneMore
 pub mod Seat
 pub mod SeatStep
 pub mod Sends
-pub mod RowText
-pub mod Rows
+pub mod ExampleText
+pub mod Examples

@@ -12,5 +12,6 @@ pub mod Record
 pub mod Played
 pub mod Ready
 pub mod Table
+pub mod Moments
 pub mod Rightly
 pub mod Laws

@@ -1,6 +1,7 @@
 -- The one record that a schedule of actions gives.
 use Rattle.std.specs.Prelude.{ℕ, zero, suc, ◌+◌, ◌%◌, nat_lt, Bool, false, ◌==◌, if◌then◌else◌, Option, Some, None, List, [], ◌∷◌, length, map}
 use Rattle.std.specs.List.{list_any}
+use Rattle.ring_math.specs.Names.{Id, Number}
 use Rattle.wire_msg.specs.declared.command.Command.{Command as NodeCommand}
 use Rattle.overlay_rules.specs.declared.entry.Event.{Event}
 use Rattle.overlay_rules.specs.declared.entry.Event.TheVariants as event
@@ -10,12 +11,12 @@ use Rattle.overlay_rules.specs.Record.{Setting, World, Visit, visit, sent_in, en
 
 -- the actions of a scenario, those of a shuffle with its random words
 pub data Action : Type 0 where
-  Command : (node number : ℕ) (command : NodeCommand) → Action
+  Command : (node : Id) (number : Number) (command : NodeCommand) → Action
   Settle : (count : ℕ) → Action
   Deliver : (message : ℕ) → Action
   Shuffle : (words : List ℕ) → Action
   Dup : (copies : ℕ) → Action
-  Noise : (node : ℕ) → Action
+  Noise : (node : Id) → Action
 
 -- how far a schedule is played: the world, how often a settle delivers, and the deliveries that found no message
 pub record Play : Type 0 where

@@ -1,5 +1,6 @@
 -- When a joiner becomes ready: it has the lists of both neighbours, and all that they name.
-use Rattle.std.specs.Prelude.{ℕ, ◌&&◌, if◌then◌else◌, Some, None, [], ◌∷◌, ◌++◌, Bool}
+use Rattle.std.specs.Prelude.{◌&&◌, if◌then◌else◌, Some, None, [], ◌∷◌, ◌++◌, Bool}
+use Rattle.ring_math.specs.Names.{Id, Attempt, Number}
 use Rattle.ring_math.specs.Sides.{leaves}
 use Rattle.ring_math.specs.Files.{has_lists}
 use Rattle.wire_msg.specs.declared.note.Note.TheVariants as note
@@ -13,7 +14,7 @@ abbrev pub has_all : State → Lists → Bool
 has_all s lists = has_lists s.files lists.manifest lists.tombs
 
 -- the joiner is ready: it confirms both leases, and tells its leaves
-abbrev pub readied : State → ℕ → ℕ → ℕ → ℕ → Outcome
+abbrev pub readied : State → Attempt → Number → Id → Id → Outcome
 readied s a number l r =
     becomes (record s { phase = Ready a l r })
     (to_both l r (Confirm a) ++ to_each (leaves s.me s.known) Announce)

@@ -1,6 +1,10 @@
 -- Histories of all nodes together, and which of them can come.
-use Rattle.std.specs.Prelude.{◌≡◌, ◌≢◌, ◌<◌, ◌≤◌, ℕ, ◌^◌, Bool, true, not, ◌&&◌, ◌==◌, if◌then◌else◌, Option, Some, None, List, [], ◌∷◌, ◌++◌, map, slice_get, length, All, Contains, take}
+use Rattle.std.specs.Prelude.{◌≡◌, ◌≢◌, ◌<◌, ◌≤◌, ℕ, ◌^◌, Bool, true, not, ◌&&◌, ◌==◌, if◌then◌else◌, Option, Some, None, List, [], ◌∷◌, ◌++◌, map, slice_get}
+use Rattle.std.specs.Prelude.{length, All, Contains, take}
+use Rattle.ring_math.specs.declared.limits.TheConstants.{MOST_BYTES}
+use Rattle.ring_math.specs.Names.{Id, Number, FileId, Content, Stamp}
 use Rattle.ring_math.specs.Sides.{is_in}
+use Rattle.wire_msg.specs.declared.limits.TheConstants.{MOST_COPIES}
 use Rattle.wire_msg.specs.declared.command.Command.{Command as NodeCommand}
 use Rattle.wire_msg.specs.declared.command.Command.TheVariants as command
 use Rattle.wire_msg.specs.Words.{Envelope, Sent}
@@ -13,10 +17,10 @@ use Rattle.overlay_rules.specs.Step.{step}
 
 -- the nodes there are, and the one that is ready from the start
 pub record Setting : Type 0 where
-  pub nodes : List ℕ
-  pub founder : ℕ
+  pub nodes : List Id
+  pub founder : Id
 
-abbrev pub all_differ : List ℕ → Bool
+abbrev pub all_differ : List Id → Bool
 all_differ [] = true
 all_differ (x ∷ xs) = not (is_in xs x) && all_differ xs
 
@@ -27,16 +31,16 @@ pub record IsSetting (g : Setting) : Type 0 where
   pub founder : Contains g.nodes g.founder
 
 -- what is a file or the bytes of one, and what a command can say
-abbrev pub IsFile : List ℕ → Type 0
+abbrev pub IsFile : FileId → Type 0
 IsFile f = (length f ≡ 20) × All (λ b. b < 256) f
 
-abbrev pub IsBytes : List ℕ → Type 0
-IsBytes b = (length b ≤ 4096) × All (λ c. c < 256) b
+abbrev pub IsBytes : Content → Type 0
+IsBytes b = (length b ≤ MOST_BYTES) × All (λ c. c < 256) b
 
 abbrev pub IsSaid : NodeCommand → Type 0
 IsSaid (command.Join via) = via < 2 ^ 128
 IsSaid (command.Lookup key) = key < 2 ^ 128
-IsSaid (command.Insert f copies b) = IsFile f × (1 ≤ copies) × (copies ≤ 9) × IsBytes b
+IsSaid (command.Insert f copies b) = IsFile f × (1 ≤ copies) × (copies ≤ MOST_COPIES) × IsBytes b
 IsSaid (command.Fetch f) = IsFile f
 IsSaid command.GiveUp = Unit {0}
 IsSaid (command.Reclaim f) = IsFile f
@@ -53,7 +57,7 @@ sent_in (e ∷ es) = e.messages ++ sent_in es
 
 -- the node of an event, and what comes to it
 pub record Visit : Type 0 where
-  pub node : ℕ
+  pub node : Id
   pub input : Input
 
 abbrev pub visit_of : Option Envelope → Option Visit
@@ -67,16 +71,16 @@ visit sent (event.Noise x) = Some (record { node = x; input = Noise })
 
 -- the states of all nodes, and the entries so far
 pub record World : Type 0 where
-  pub states : ℕ → State
+  pub states : Id → State
   pub past : List Entry
 
 abbrev pub world_at_start : Setting → World
 world_at_start g = record { states = λ x. start x (x == g.founder); past = [] }
 
-abbrev pub state_at : (ℕ → State) → ℕ → State → ℕ → State
+abbrev pub state_at : (Id → State) → Id → State → Id → State
 state_at states x s y = if y == x then s else states y
 
-abbrev pub states_after : (ℕ → State) → Option Visit → (ℕ → State)
+abbrev pub states_after : (Id → State) → Option Visit → (Id → State)
 states_after states None = states
 states_after states (Some v) = state_at states v.node (step (states v.node) v.input).state
 
@@ -92,11 +96,11 @@ abbrev pub unstamped : Envelope → Envelope
 unstamped e = record e { stamp = 0 }
 
 -- what a step sends, from its node
-abbrev pub enveloped : ℕ → ℕ → Sent → Envelope
+abbrev pub enveloped : Stamp → Id → Sent → Envelope
 enveloped stamp x s = record { sender = x; receiver = s.receiver; stamp = stamp; message = s.message }
 
 -- a command's number is greater than each earlier one at its node, and no other command's
-abbrev pub IsFreshAfter : ℕ → ℕ → Event → Type 0
+abbrev pub IsFreshAfter : Id → Number → Event → Type 0
 IsFreshAfter x n (event.Command y m c) = (n ≢ m) × (x ≡ y → m < n)
 IsFreshAfter x n (event.Deliver m) = Unit {0}
 IsFreshAfter x n (event.Noise y) = Unit {0}

@@ -1,5 +1,6 @@
 -- What a node keeps.
-use Rattle.std.specs.Prelude.{ℕ, Bool, true, false, Option, Some, None, List, [], if◌then◌else◌}
+use Rattle.std.specs.Prelude.{Bool, true, false, Option, Some, None, List, [], if◌then◌else◌}
+use Rattle.ring_math.specs.Names.{Id, Attempt, Number}
 use Rattle.ring_math.specs.declared.file.Held.{Held}
 use Rattle.coverage.specs.declared.Reach.{Reach}
 use Rattle.coverage.specs.GapFiles.{Lists}
@@ -13,23 +14,23 @@ pub record Lease : Type 0 where
 
 -- the attempt is that of the join under way, or of the last one; the number is that of the Join command
 pub data Phase : Type 0 where
-  Waiting : (attempt : ℕ) → Phase
-  Asking : (attempt number : ℕ) → Phase
-  Probing : (attempt number : ℕ) (probed : List (ℕ × Bool)) → Phase
-  Leasing : (attempt number left right : ℕ) (from_left from_right : Option Lists) → Phase
-  Ready : (attempt left right : ℕ) → Phase
+  Waiting : (attempt : Attempt) → Phase
+  Asking : (attempt : Attempt) (number : Number) → Phase
+  Probing : (attempt : Attempt) (number : Number) (probed : List (Id × Bool)) → Phase
+  Leasing : (attempt : Attempt) (number : Number) (left right : Id) (from_left from_right : Option Lists) → Phase
+  Ready : (attempt : Attempt) (left right : Id) → Phase
 
 pub record State : Type 0 where
-  pub me : ℕ
+  pub me : Id
   pub phase : Phase
   pub left_gate : Option Lease
   pub right_gate : Option Lease
-  pub known : List ℕ
+  pub known : List Id
   pub files : List Held
   pub pending : List Pending
-  pub waiting : List ℕ
+  pub waiting : List Number
 
-abbrev pub start : ℕ → Bool → State
+abbrev pub start : Id → Bool → State
 start me founder =
     record {
       me = me;
@@ -42,7 +43,7 @@ start me founder =
       waiting = [];
     }
 
-abbrev pub attempt_of : Phase → ℕ
+abbrev pub attempt_of : Phase → Attempt
 attempt_of (Waiting a) = a
 attempt_of (Asking a n) = a
 attempt_of (Probing a n probed) = a
@@ -68,11 +69,11 @@ abbrev pub bare : Option Lease → Option Gate
 bare None = None
 bare (Some g) = Some g.gate
 
-abbrev pub joiner_of : Option Lease → Option ℕ
+abbrev pub joiner_of : Option Lease → Option Id
 joiner_of None = None
 joiner_of (Some g) = Some g.gate.joiner
 
 -- what coverage sees of a node with these links
-abbrev pub reach : State → ℕ → ℕ → Reach
+abbrev pub reach : State → Id → Id → Reach
 reach s left right =
     record { me = s.me; left = left; right = right; left_joiner = joiner_of s.left_gate; right_joiner = joiner_of s.right_gate }

@@ -1,7 +1,9 @@
 //! Histories of all nodes together.
 
-ghost use Rattle.std.specs.Prelude.{◌≡◌, ◌++◌, ◌∷◌, [], OnOk, OnErr};
+ghost use Rattle.std.specs.Prelude.{◌≡◌, ◌++◌, ◌∷◌, [], All, OnOk, OnErr};
+ghost use Rattle.overlay_rules.specs.Record.{IsSaidBy};
 
+use crate::laws::command_law;
 use ring_math::{Id, OutOfMemory};
 use std::alloc::Global;
 use std::marker::Model;
@@ -34,6 +36,17 @@ pub struct Entry {
     pub notes: Notes,
 }
 
+impl Event {
+    /// What the event's command says, it can say: a law, which does nothing.
+    pub fn said_law(&self)
+        ensures { IsSaidBy self.now }
+    {
+        if let Event::Command { command, .. } = self {
+            command_law(command);
+        }
+    }
+}
+
 /// Entries in the order in which they happened.
 #[derive(Drop)]
 pub struct Entries {
@@ -41,12 +54,15 @@ pub struct Entries {
 }
 
 impl Model for Entries {
-    ghost use Rattle.std.specs.Prelude.{List};
+    ghost use Rattle.std.specs.Prelude.{List, All};
     ghost use Rattle.overlay_rules.specs.declared.entry.Entry.{Entry};
+    ghost use Rattle.overlay_rules.specs.Record.{IsSaidBy};
 
     ghost Value = { List Entry };
 
     ghost view = { λ a. a.items.items };
+
+    ghost invariant = { λ a. All (λ e. IsSaidBy e.event) a.items.items };
 }
 
 impl Entries {
@@ -64,10 +80,18 @@ impl Entries {
         &self.items
     }
 
+    /// What the commands of a history say, they can say: a law, which does nothing.
+    pub fn said_law(&self)
+        ensures { All (λ e. IsSaidBy e.event) self.now }
+    {
+        let _items = &self.items;
+    }
+
     pub fn push(&mut self, item: Entry) -> Result<(), OutOfMemory>
         ensures ok { OnOk result (self.new ≡ self.old ++ item ∷ []) }
         ensures err { OnErr result (self.new ≡ self.old) }
     {
+        item.event.said_law();
         self.items.push(item)?;
         Ok(())
     }

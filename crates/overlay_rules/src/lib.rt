@@ -4,8 +4,10 @@
 
 mod entry;
 mod gate;
+mod laws;
 mod request;
 
 pub use entry::{Entries, Entry, Event, Record};
 pub use gate::{Gate, Verdict};
+pub use laws::command_law;
 pub use request::{Asked, Pending, Way};

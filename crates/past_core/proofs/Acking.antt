@@ -1,5 +1,6 @@
 -- The row of an acknowledgement, by the insert that it is for.
-use Rattle.std.proofs.Common.{◌≡◌, ◌<◌, ℕ, Bool, true, false, ◌&&◌, not, ◌==◌, Option, Some, List, [], ◌∷◌, length, filter, position, get_or, slice_get, refl, sym, ap, ◌∙◌, arith}
+use Rattle.std.proofs.Common.{◌≡◌, ◌<◌, ℕ, Bool, true, false, ◌&&◌, not, ◌==◌, Option, Some, List, [], ◌∷◌, length, filter, position, get_or, slice_get, refl}
+use Rattle.std.proofs.Common.{sym, ap, ◌∙◌, arith}
 use Rattle.std.proofs.lemmas.List.Quantifiers.{position-Some}
 use Rattle.std.proofs.lemmas.Option.{slice_get-get_or}
 use Rattle.std.proofs.lemmas.Bool.Decides.{Decides-eqb}
@@ -57,7 +58,8 @@ some-left : (s : State) (place : ℕ) (p : Pending) (awaited : List ℕ) → (aw
 some-left s place p [] some = absurd (some refl)
 some-left s place p (y ∷ ys) some = refl
 
-pub ack-heard : (s : State) (from origin number : ℕ) (file : List ℕ) (place : ℕ) (p : Pending) (awaited : List ℕ) → IsAt s.pending from origin number file place p →
+pub ack-heard : (s : State) (from origin number : ℕ) (file : List ℕ) (place : ℕ) (p : Pending) (awaited : List ℕ) →
+    IsAt s.pending from origin number file place p →
     awaited ≡ filter (λ y. not (y == from)) p.awaited → (awaited ≡ [] → ⊥) →
     on_replica_ack s from origin number file ≡ nothing (record s { pending = heard_at s.pending place awaited })
 ack-heard s from origin number file place p awaited at is some =

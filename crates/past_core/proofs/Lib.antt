@@ -2,5 +2,6 @@ pub mod Places
 pub mod Near
 pub mod Acking
 pub mod Weighing
-pub mod Told
+pub mod Replied
 pub mod Reclaiming
+pub mod Passing

@@ -11,13 +11,13 @@ use Rattle.overlay_rules.specs.Outcome.{Outcome, before, replied}
 use Rattle.overlay_rules.specs.Roots.{is_of, emptied, reclaimed}
 use Rattle.past_core.specs.Waits.{ask_of}
 use Rattle.past_core.specs.declared.reclaims.ReclaimWhat.TheVariants as what
-use Rattle.past_core.specs.Told.{replied_asks}
-use Rattle.past_core.specs.Reclaims.{told_reclaim}
-use Rattle.past_core.proofs.Told.{replied-asks}
+use Rattle.past_core.specs.Replied.{replied_asks}
+use Rattle.past_core.specs.Reclaims.{reclaim_outcome}
+use Rattle.past_core.proofs.Replied.{replied-asks}
 
 pub row-buried : (s : State) (origin number : ℕ) (file : List ℕ) (slot : Option Slot) (room : Bool) (ended : List (ℕ × ℕ)) → bury_at slot room ≡ bury.Buried →
     ended ≡ map ask_of (filter (is_of file) s.pending) →
-    reclaimed s origin number file slot ≡ told_reclaim (emptied s file) origin number file (record { what = what.Reclaimed; ended = ended })
+    reclaimed s origin number file slot ≡ reclaim_outcome (emptied s file) origin number file (record { what = what.Reclaimed; ended = ended })
 row-buried s origin number file None true ended e is = cc
 row-buried s origin number file None false ended e is = cc
 row-buried s origin number file (Some None) room ended e is = cc

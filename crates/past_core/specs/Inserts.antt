@@ -1,5 +1,6 @@
 -- What is said to an insert, and what becomes of a state with that.
 use Rattle.std.specs.Prelude.{◌≡◌, ◌⊎◌, ℕ, Bool, true, false, Option, Some, None, List, [], ◌∷◌}
+use Rattle.ring_math.specs.Names.{Id, Number, FileId, Content}
 use Rattle.ring_math.specs.Files.{Slot, with_slot}
 use Rattle.ring_math.specs.declared.file.Held.{Held}
 use Rattle.wire_msg.specs.declared.note.Note.{Note}
@@ -17,7 +18,7 @@ use Rattle.past_core.specs.declared.inserts.InsertWhat.{InsertWhat}
 use Rattle.past_core.specs.declared.inserts.InsertWhat.TheVariants as what
 
 -- the reply, or what is sent to each target; s is the state afterwards
-abbrev pub said : State → ℕ → ℕ → List ℕ → List ℕ → InsertWhat → Outcome
+abbrev pub said : State → Id → Number → FileId → Content → InsertWhat → Outcome
 said s origin number file bytes what.Gone = replied s asked.Insert origin number (reply.Gone s.me)
 said s origin number file bytes what.Collision = replied s asked.Insert origin number (reply.Collision s.me)
 said s origin number file bytes (what.TooFew known) = replied s asked.Insert origin number (reply.TooFew s.me known)
@@ -25,21 +26,21 @@ said s origin number file bytes what.Full = replied s asked.Insert origin number
 said s origin number file bytes (what.Stored holders) = replied s asked.Insert origin number (reply.Stored holders)
 said s origin number file bytes (what.Replicate targets) = becomes s (to_each targets (Replicate origin number file bytes)) []
 
-abbrev pub accepted_note : Bool → List ℕ → List ℕ → List Note
+abbrev pub accepted_note : Bool → FileId → Content → List Note
 accepted_note true file bytes = note.Accepted file bytes ∷ []
 accepted_note false file bytes = []
 
-abbrev pub told_insert : State → ℕ → ℕ → List ℕ → List ℕ → InsertStep → Outcome
-told_insert s origin number file bytes step =
+abbrev pub insert_outcome : State → Id → Number → FileId → Content → InsertStep → Outcome
+insert_outcome s origin number file bytes step =
     before [] (accepted_note step.accepted file bytes) (said s origin number file bytes step.what)
 
 -- the file is held where it is accepted
-abbrev pub files_where : Bool → List Held → List ℕ → List ℕ → List Held
+abbrev pub files_where : Bool → List Held → FileId → Content → List Held
 files_where true files file bytes = with_slot files file (Some bytes)
 files_where false files file bytes = files
 
 -- the insert that waits, where replicas are asked for
-abbrev pub pending_of : ℕ → ℕ → List ℕ → InsertWhat → Option Pending
+abbrev pub pending_of : Id → Number → FileId → InsertWhat → Option Pending
 pending_of origin number file (what.Replicate targets) =
     Some (record { origin = origin; number = number; file = file; targets = targets; awaited = targets })
 pending_of origin number file what.Gone = None
@@ -52,7 +53,7 @@ abbrev pub with_added : List Pending → Option Pending → List Pending
 with_added ps None = ps
 with_added ps (Some p) = with_ask ps p
 
-abbrev pub after_insert : State → ℕ → ℕ → List ℕ → List ℕ → InsertStep → State
+abbrev pub after_insert : State → Id → Number → FileId → Content → InsertStep → State
 after_insert s origin number file bytes step =
     record s {
       files = files_where step.accepted s.files file bytes;
@@ -60,7 +61,7 @@ after_insert s origin number file bytes step =
     }
 
 -- nothing refuses the insert: the file is held already, or it is put now
-abbrev pub IsKept : State → ℕ → ℕ → List ℕ → ℕ → List ℕ → Option Slot → Type 0
+abbrev pub IsKept : State → Id → Number → FileId → ℕ → Content → Option Slot → Type 0
 IsKept s origin number file copies bytes slot =
     (inserted s origin number file copies bytes slot ≡ replicated s origin number file bytes (targets_of s file copies))
     ⊎ (inserted s origin number file copies bytes slot

@@ -1,5 +1,5 @@
 pub mod Waits
-pub mod Told
+pub mod Replied
 pub mod Acks
 pub mod Inserts
 pub mod Reclaims

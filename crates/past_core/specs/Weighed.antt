@@ -1,6 +1,7 @@
 -- What an insert meets before any memory is taken, by what a put would answer, how many leaves are known and how many
 -- replicas are asked for.
 use Rattle.std.specs.Prelude.{ℕ, nat_lt, if◌then◌else◌, List, [], ◌∷◌}
+use Rattle.ring_math.specs.Names.{Id, Number, FileId, Content}
 use Rattle.file_store.specs.declared.answer.Put.{Put}
 use Rattle.file_store.specs.declared.answer.Put.TheVariants as put
 use Rattle.wire_msg.specs.declared.note.Note.TheVariants as note
@@ -25,13 +26,13 @@ weighed put.Same known replicas = unless_few known replicas weight.Held
 weighed put.New known replicas = unless_few known replicas weight.New
 
 -- the row of an insert that meets this
-abbrev pub by_weight : State → ℕ → ℕ → List ℕ → ℕ → List ℕ → Weighed → Outcome
+abbrev pub by_weight : State → Id → Number → FileId → ℕ → Content → Weighed → Outcome
 by_weight s origin number file copies bytes (weight.Refused w) = said s origin number file bytes w
 by_weight s origin number file copies bytes weight.Held = replicated s origin number file bytes (targets_of s file copies)
 by_weight s origin number file copies bytes weight.New =
     before [] (note.Accepted file bytes ∷ []) (replicated (holding s file bytes) origin number file bytes (targets_of s file copies))
 
 -- by the targets: the root alone holds the file, or replicas are asked for
-abbrev pub held_by : ℕ → List ℕ → InsertWhat
+abbrev pub held_by : Id → List Id → InsertWhat
 held_by me [] = what.Stored (me ∷ [])
 held_by me (t ∷ ts) = what.Replicate (t ∷ ts)

@@ -3,7 +3,7 @@
 ghost use Rattle.std.specs.Prelude.{◌≡◌, ◌==◌, ℕ, not, Some, None, [], length, filter, position, IfOk, OnErr, slice_get};
 ghost use Rattle.overlay_rules.specs.State.{State};
 ghost use Rattle.overlay_rules.specs.Replicas.{awaits, on_replica_ack};
-ghost use Rattle.past_core.specs.Acks.{acked, IsWithin, told_ack};
+ghost use Rattle.past_core.specs.Acks.{acked, IsWithin, ack_outcome};
 
 use crate::past::Past;
 use ring_math::{FileId, Id, Ids, OutOfMemory};
@@ -72,7 +72,7 @@ impl Past {
     ) -> Result<Option<Ids>, OutOfMemory>
         ensures row { (s : State) → IfOk result (λ targets.
             on_replica_ack (record s { pending = self.old.asks }) sender origin number file
-            ≡ told_ack (record s { pending = self.new.asks }) origin number targets) }
+            ≡ ack_outcome (record s { pending = self.new.asks }) origin number targets) }
         ensures refused { OnErr result (position (awaits sender origin number file) self.old.asks ≡ None → ⊥) }
         ensures as_before { OnErr result (self.new.asks ≡ self.old.asks) }
     {

@@ -6,7 +6,7 @@ ghost use Rattle.leaf_set.specs.Leaves.{StandsFor, in_order};
 ghost use Rattle.file_store.specs.Answers.{put_of};
 ghost use Rattle.overlay_rules.specs.State.{State};
 ghost use Rattle.overlay_rules.specs.Roots.{inserted, targets_of as targets_in};
-ghost use Rattle.past_core.specs.Inserts.{told_insert, after_insert, files_where, with_added, pending_of, IsKept};
+ghost use Rattle.past_core.specs.Inserts.{insert_outcome, after_insert, files_where, with_added, pending_of, IsKept};
 ghost use Rattle.past_core.specs.Weighed.{weighed, held_by};
 
 use crate::nearest::targets_of;
@@ -45,7 +45,7 @@ pub enum InsertWhat {
     Collision,
     /// So many leaves are known, fewer than the copies beside the root's own.
     TooFew { known: u16 },
-    /// There is no entry for the file, and 4,096 stand.
+    /// There is no entry for the file, and no room for one.
     Full,
     /// No replica is asked for: the root alone holds the file.
     Stored { holders: Ids },
@@ -66,7 +66,7 @@ pub fn what_insert(
     ensures row { (s : State) (origin number : ℕ) → s.me ≡ leafs.now.me → StandsFor leafs.now s.known →
         let before : State = record s { files = store.now.files } in
         IfOk result (λ step. inserted before origin number file.now copies bytes.now (slot_of store.now.files file.now)
-        ≡ told_insert (after_insert before origin number file.now bytes.now step) origin number file.now bytes.now step) }
+        ≡ insert_outcome (after_insert before origin number file.now bytes.now step) origin number file.now bytes.now step) }
     ensures accepted { IfOk result (λ step. step.accepted ≡ true → put_of store.now.files file.now bytes.now ≡ Put.New) }
     ensures refused { (s : State) (origin number : ℕ) → s.me ≡ leafs.now.me → StandsFor leafs.now s.known →
         OnErr result (IsKept (record s { files = store.now.files }) origin number file.now copies bytes.now (slot_of store.now.files file.now)) }
@@ -155,7 +155,7 @@ impl Past {
         ensures row { (s : State) → s.me ≡ me → StandsFor known.now s.known → IfOk result (λ step.
             inserted (record s { pending = self.old.asks; files = store.old.files }) ask.now.origin ask.now.number
             ask.now.file ask.now.copies ask.now.bytes (slot_of store.old.files ask.now.file)
-            ≡ told_insert (record s { pending = self.new.asks; files = store.new.files }) ask.now.origin ask.now.number
+            ≡ insert_outcome (record s { pending = self.new.asks; files = store.new.files }) ask.now.origin ask.now.number
             ask.now.file ask.now.bytes step) }
         ensures refused { (s : State) → s.me ≡ me → StandsFor known.now s.known → OnErr result (IsKept
             (record s { pending = self.old.asks; files = store.old.files }) ask.now.origin ask.now.number

@@ -78,9 +78,11 @@ impl Past {
         Ok(asks)
     }
 
-    /// The commands whose inserts have their key in the gap of the joiner, in order.
+    /// The commands whose inserts have their key in the gap of the joiner, in order. Memory can be refused only where there
+    /// is one.
     pub fn in_gap(&self, alloc: Global, reach: &Reach, joiner: Id) -> Result<Asks, OutOfMemory>
-        ensures { IfOk result (λ asks. asks ≡ map ask_of (filter (is_left_to reach.now joiner) self.now.asks)) }
+        ensures asks { IfOk result (λ asks. asks ≡ map ask_of (filter (is_left_to reach.now joiner) self.now.asks)) }
+        ensures refused { OnErr result (filter (is_left_to reach.now joiner) self.now.asks ≡ [] → ⊥) }
     {
         let mut asks = Asks::new(alloc);
         for ask in self.asks.as_slice() {
@@ -141,7 +143,7 @@ impl Past {
     }
 
     /// Takes away the inserts whose key is in the gap of the joiner, and answers their commands, in order. After
-    /// `OutOfMemory` the same wait as before.
+    /// `OutOfMemory`, which comes only where there is such an insert, the same wait as before.
     pub fn leave_gap(
         &mut self,
         alloc: Global,
@@ -150,6 +152,7 @@ impl Past {
     ) -> Result<Asks, OutOfMemory>
         ensures ended { IfOk result (λ asks. asks ≡ map ask_of (filter (is_left_to reach.now joiner) self.old.asks)) }
         ensures kept { OnOk result (self.new.asks ≡ filter (λ p. not (is_left_to reach.now joiner p)) self.old.asks) }
+        ensures refused { OnErr result (filter (is_left_to reach.now joiner) self.old.asks ≡ [] → ⊥) }
         ensures as_before { OnErr result (self.new.asks ≡ self.old.asks) }
     {
         let asks = self.in_gap(alloc, reach, joiner)?;

@@ -5,7 +5,7 @@ ghost use Rattle.ring_math.specs.Files.{slot_of};
 ghost use Rattle.file_store.specs.Answers.{bury_of};
 ghost use Rattle.overlay_rules.specs.State.{State};
 ghost use Rattle.overlay_rules.specs.Roots.{reclaimed};
-ghost use Rattle.past_core.specs.Reclaims.{told_reclaim, after_reclaim};
+ghost use Rattle.past_core.specs.Reclaims.{reclaim_outcome, after_reclaim};
 
 use crate::asks::Asks;
 use crate::past::Past;
@@ -43,7 +43,7 @@ impl Past {
         ensures row { (s : State) (origin number : ℕ) →
             let before : State = record s { pending = self.now.asks; files = store.now.files } in
             IfOk result (λ step. reclaimed before origin number file.now (slot_of store.now.files file.now)
-            ≡ told_reclaim (after_reclaim before file.now step.what) origin number file.now step) }
+            ≡ reclaim_outcome (after_reclaim before file.now step.what) origin number file.now step) }
         ensures held { IfOk result (λ step. step.what ≡ ReclaimWhat.Reclaimed → bury_of store.now.files file.now ≡ Bury.Buried) }
         ensures refused { OnErr result (bury_of store.now.files file.now ≡ Bury.Buried) }
     {
@@ -69,7 +69,7 @@ impl Past {
     ) -> Result<ReclaimStep, OutOfMemory>
         ensures row { (s : State) (origin number : ℕ) → IfOk result (λ step.
             reclaimed (record s { pending = self.old.asks; files = store.old.files }) origin number file (slot_of store.old.files file)
-            ≡ told_reclaim (record s { pending = self.new.asks; files = store.new.files }) origin number file step) }
+            ≡ reclaim_outcome (record s { pending = self.new.asks; files = store.new.files }) origin number file step) }
         ensures refused { OnErr result (bury_of store.old.files file ≡ Bury.Buried) }
         ensures as_before { OnErr result ((self.new.asks ≡ self.old.asks) × (store.new.files ≡ store.old.files)) }
     {

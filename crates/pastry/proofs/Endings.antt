@@ -6,6 +6,7 @@ use Rattle.scenario_reader.specs.declared.fault.LineFault.{LineFault}
 use Rattle.scenario_reader.specs.Plain.{PlainScenario}
 use Rattle.scenario_reader.specs.Grammar.{scenario_of}
 use Rattle.scenario_reader.proofs.Sizes.{scenario-sized}
+use Rattle.pastry.specs.declared.reading.TheConstants.{INPUT_LIMIT}
 use Rattle.pastry.specs.declared.outcome.TopFault.{TopFault}
 use Rattle.pastry.specs.declared.outcome.TopFault.TheVariants as fault
 use Rattle.pastry.specs.Faults.{IsWritingFault}
@@ -28,12 +29,13 @@ not_both : {s : PlainScenario} {f : LineFault} {r : Result PlainScenario LineFau
 not_both e g = cc
 
 -- the bytes that were read and refused are the first of those that were there
-refused_bytes : (xs : List ℕ) (left left_after : Option (List ℕ)) (f : LineFault) → left ≡ Some xs → IsRefused left left_after f → scenario_of (take 90010001 xs) ≡ Err f
+refused_bytes : (xs : List ℕ) (left left_after : Option (List ℕ)) (f : LineFault) → left ≡ Some xs → IsRefused left left_after f →
+    scenario_of (take INPUT_LIMIT xs) ≡ Err f
 refused_bytes xs None after f e r = cc
 refused_bytes xs (Some ys) None f e r = absurd r.read.told.bytes
 refused_bytes xs (Some ys) (Some zs) f e r =
     let same : ys ≡ xs = cc in
-    subst (λ (bs : List ℕ). scenario_of bs ≡ Err f) (r.read.told.bytes.0 ∙ ap (take 90010001) same) r.refused
+    subst (λ (bs : List ℕ). scenario_of bs ≡ Err f) (r.read.told.bytes.0 ∙ ap (take INPUT_LIMIT) same) r.refused
 
 -- the bytes that were played are those that were there
 played_bytes : (xs : List ℕ) (left left_after : Option (List ℕ)) (s : PlainScenario) → left ≡ Some xs → IsScenario left left_after s → scenario_of xs ≡ Ok s
@@ -44,8 +46,8 @@ played_bytes xs (Some ys) (Some zs) s e r =
     subst (λ (bs : List ℕ). scenario_of bs ≡ Ok s) (r.read.told.bytes.0 ∙ same) r.is
 
 -- a scenario is no longer than what is read
-whole : (xs : List ℕ) (s : PlainScenario) → scenario_of xs ≡ Ok s → take 90010001 xs ≡ xs
-whole xs s e = let size = scenario-sized xs s e in take_all 90010001 xs (omega arith)
+whole : (xs : List ℕ) (s : PlainScenario) → scenario_of xs ≡ Ok s → take INPUT_LIMIT xs ≡ xs
+whole xs s e = let size = scenario-sized xs s e in take_all INPUT_LIMIT xs (omega arith)
 
 same_fault : {f g : LineFault} {r : Result PlainScenario LineFault} → r ≡ Err f → r ≡ Err g → f ≡ g
 same_fault e h = cc
@@ -62,7 +64,7 @@ module _ (left left_after : Option (List ℕ)) (rose_source rose_sink : Type 0) 
   plays (Some fault.OutOfMemory) c source sink xs e s is = inr refl
 
   refuses : (answered : Option TopFault) → Causes left left_after rose_source rose_sink answered → (rose_source → ⊥) → (rose_sink → ⊥) →
-      (xs : List ℕ) → left ≡ Some xs → (f : LineFault) → scenario_of (take 90010001 xs) ≡ Err f → DoneOr answered (Some (fault.Scenario f))
+      (xs : List ℕ) → left ≡ Some xs → (f : LineFault) → scenario_of (take INPUT_LIMIT xs) ≡ Err f → DoneOr answered (Some (fault.Scenario f))
   refuses None c source sink xs e f is =
       let done = c.done refl in
       let read : scenario_of xs ≡ Ok done.0 = played_bytes xs left left_after done.0 e done.1 in
@@ -75,11 +77,13 @@ module _ (left left_after : Option (List ℕ)) (rose_source rose_sink : Type 0) 
   refuses (Some fault.OutOfMemory) c source sink xs e f is = inr refl
 
   -- what a source has is answered
-  pub answers : (answered : Option TopFault) → Causes left left_after rose_source rose_sink answered → (rose_source → ⊥) → (rose_sink → ⊥) → IsAnswered left answered
+  pub answers : (answered : Option TopFault) → Causes left left_after rose_source rose_sink answered → (rose_source → ⊥) → (rose_sink → ⊥) →
+      IsAnswered left answered
   answers answered c source sink xs e = (plays answered c source sink xs e, refuses answered c source sink xs e)
 
 -- where no sink fails, what is made is played
-pub big_is_done : (rose_sink : Type 0) (answered : Option TopFault) → IfSome answered IsWritingFault → (answered ≡ Some fault.Write → rose_sink) → (rose_sink → ⊥) → DoneOr answered None
+pub big_is_done : (rose_sink : Type 0) (answered : Option TopFault) → IfSome answered IsWritingFault → (answered ≡ Some fault.Write → rose_sink) →
+    (rose_sink → ⊥) → DoneOr answered None
 big_is_done rose_sink None kind unwritten sink = inl refl
 big_is_done rose_sink (Some fault.Usage) kind unwritten sink = absurd kind
 big_is_done rose_sink (Some (fault.Scenario f)) kind unwritten sink = absurd kind

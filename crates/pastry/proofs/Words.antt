@@ -23,7 +23,8 @@ no_mode : {n : Mode} → (◌≡◌ {A = Result Mode WordFault} (Err Usage) (Err
 no_mode (inl e) = cc
 no_mode (inr e) = cc
 
-ask_by : (words : List Text) (mode : Mode) → (◌≡◌ {A = Result Mode WordFault} (Ok mode) (Err OutOfMemory)) ⊎ ((names : Bor (List (Bor Text))) × AreModes names × Reads names words (Ok mode)) →
+ask_by : (words : List Text) (mode : Mode) →
+    (◌≡◌ {A = Result Mode WordFault} (Ok mode) (Err OutOfMemory)) ⊎ ((names : Bor (List (Bor Text))) × AreModes names × Reads names words (Ok mode)) →
     ((pieces : List Piece) → ArePlain pieces words → mode ≡ mode_by pieces) → AskFor words mode
 ask_by words mode (inl e) plain = cc
 ask_by words mode (inr (names, modes, reads)) plain =
@@ -36,7 +37,8 @@ asked words mode r = ask_by words mode r.reads (λ pieces p. mode_said (r.plain 
 pub AskFor-from_read : (words : List Text) (answered mode : Mode) → answered ≡ mode → WereRead words (Ok answered) → AskFor words mode
 AskFor-from_read words answered mode is r = subst (AskFor words) is (asked words answered r)
 
-usage_by : (words : List Text) → (◌≡◌ {A = Result Mode WordFault} (Err Usage) (Err OutOfMemory)) ⊎ ((names : Bor (List (Bor Text))) × AreModes names × Reads names words (Err Usage)) →
+usage_by : (words : List Text) → (◌≡◌ {A = Result Mode WordFault} (Err Usage) (Err OutOfMemory))
+    ⊎ ((names : Bor (List (Bor Text))) × AreModes names × Reads names words (Err Usage)) →
     ((pieces : List Piece) → ArePlain pieces words → ⊥) → AreUsage words
 usage_by words (inl e) odd = cc
 usage_by words (inr (names, modes, reads)) odd = record { names = names; are_modes = modes; refused = reads.usage refl; odd = odd }

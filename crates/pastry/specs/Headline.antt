@@ -4,9 +4,11 @@ use Rattle.std.specs.Prelude.{List}
 use Rattle.overlay_rules.specs.declared.entry.Entry.{Entry}
 use Rattle.overlay_rules.specs.Record.{Setting}
 use Rattle.overlay_rules.specs.Rightly.{NotesAreRight, LookupsAreRight, ClosedOnce}
-use Rattle.overlay_rules.specs.Laws.{OneCovers, ClosestCovers, HopsGoNearer, OwnerHolds, HeldIsAccepted, NotedOnce, StoredStays, GoneIsReclaimed, ReclaimedIsLast}
+use Rattle.overlay_rules.specs.Laws.{OneCovers, ClosestCovers, HopsGoNearer, OwnerHolds, HeldIsAccepted, NotedOnce, StoredStays, GoneIsReclaimed}
+use Rattle.overlay_rules.specs.Laws.{ReclaimedIsLast}
 use Rattle.ring_laws.specs.Closings.{ClosingsAreRight}
 use Rattle.ring_laws.specs.Hops.{HopsAreFew}
+use Rattle.quiet_laws.specs.Laws.{NobodyWaits, NobodyWaitsWithRoom}
 
 pub record Headline (g : Setting) (es : List Entry) : Type 0 where
   -- after every entry no two ready nodes cover one key; the closest ready node covers it, or keeps it for one that joins
@@ -31,3 +33,6 @@ pub record Headline (g : Setting) (es : List Entry) : Type 0 where
   pub stored_stays : StoredStays es
   pub gone_is_reclaimed : GoneIsReclaimed es
   pub reclaimed_is_last : ReclaimedIsLast es
+  -- where each message that was sent was delivered by some entry, each command is closed, unless a store is full
+  pub nobody_waits : NobodyWaits g es
+  pub nobody_waits_with_room : NobodyWaitsWithRoom g es

@@ -4,3 +4,4 @@ pub mod Headline
 pub mod Prepared
 pub mod Reading
 pub mod Runs
+pub mod Written

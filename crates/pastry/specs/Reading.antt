@@ -1,15 +1,16 @@
 -- What was read of a source: a scenario, or what is none.
 use Rattle.std.specs.Prelude.{◌≡◌, ◌≢◌, ◌≤◌, ℕ, List, [], take, drop, length, Option, Ok, Err}
 use Rattle.outside.specs.Told.{Told}
+use Rattle.pastry.specs.declared.reading.TheConstants.{INPUT_LIMIT}
 use Rattle.scenario_reader.specs.declared.fault.LineFault.{LineFault}
 use Rattle.scenario_reader.specs.declared.fault.LineFault.TheVariants as line_fault
 use Rattle.scenario_reader.specs.Grammar.{scenario_of}
 use Rattle.scenario_reader.specs.Plain.{PlainScenario}
 
--- these bytes were read of what a source had left: all of it, but no more than 90,010,001
+-- these bytes were read of what a source had left: all of it, but no more than the limit
 pub record WasRead (before after : Option (List ℕ)) (bytes : List ℕ) : Type 0 where
-  pub told : Told before after (λ xs ys. (bytes ≡ take 90010001 xs) × (ys ≡ drop 90010001 xs))
-  pub limit : length bytes ≤ 90010001
+  pub told : Told before after (λ xs ys. (bytes ≡ take INPUT_LIMIT xs) × (ys ≡ drop INPUT_LIMIT xs))
+  pub limit : length bytes ≤ INPUT_LIMIT
 
 -- all that the source had left was read
 pub record WasReadToEnd (before after : Option (List ℕ)) (bytes : List ℕ) : Type 0 where

@@ -2,7 +2,6 @@
 use Rattle.std.specs.Prelude.{◌≡◌, ◌⊎◌, ℕ, List, ◌++◌, take, Option, Some, None, Ok, Err}
 use Rattle.overlay_rules.specs.declared.entry.Record.{Record}
 use Rattle.overlay_rules.specs.Record.{IsRecord}
-use Rattle.outside.specs.Told.{Told}
 use Rattle.scenario_reader.specs.declared.fault.LineFault.{LineFault}
 use Rattle.scenario_reader.specs.Grammar.{scenario_of}
 use Rattle.scenario_reader.specs.Plain.{PlainScenario}
@@ -12,6 +11,7 @@ use Rattle.clap.specs.Walk.{Text}
 use Rattle.cli_words.specs.declared.mode.Mode.{Mode}
 use Rattle.cli_words.specs.declared.mode.Mode.TheVariants.{Play, Big}
 use Rattle.delivery_report.specs.Texts.{report_text, summary_text}
+use Rattle.pastry.specs.declared.reading.TheConstants.{INPUT_LIMIT}
 use Rattle.pastry.specs.declared.outcome.TopFault.{TopFault}
 use Rattle.pastry.specs.declared.outcome.TopFault.TheVariants as fault
 use Rattle.pastry.specs.Asked.{AskFor}
@@ -26,18 +26,14 @@ pub record IsPlayed (s : PlainScenario) (r : Record) : Type 0 where
   pub legal : IsRecord (setting_of s) r.entries
   pub headline : Headline (setting_of s) r.entries
 
--- a scenario of which R says where it comes from was played, and of its text, which `text_of` gives, W says what a sink took
-pub record HasPlayed (R : PlainScenario → Type 0) (text_of : PlainScenario → Record → List ℕ) (W : List ℕ → List ℕ → List ℕ → Type 0) (taken_before taken_after : Option (List ℕ)) (played : Option Record) : Type 0 where
+-- a scenario of which R says where it comes from was played, and of its text, which `text_of` gives, W says what became of it
+pub record HasPlayed (R : PlainScenario → Type 0) (text_of : PlainScenario → Record → List ℕ) (W : List ℕ → Type 0) (played : Option Record) : Type 0 where
   pub scenario : PlainScenario
   pub record_of : Record
   pub from : R scenario
   pub is_played : IsPlayed scenario record_of
   pub same : played ≡ Some record_of
-  pub written : Told taken_before taken_after (W (text_of scenario record_of))
-
--- the whole text was taken
-abbrev pub Appends : List ℕ → List ℕ → List ℕ → Type 0
-Appends text before after = after ≡ before ++ text
+  pub written : W (text_of scenario record_of)
 
 -- the scenario of a mode: in `play` all that a source had, read to its end; in `big` the one that is made of a number of nodes
 -- and a seed, with the source left as it is
@@ -51,10 +47,10 @@ text_of Play s r = report_text s r
 text_of (Big nodes seed) s r = summary_text s r
 
 -- the words ask for a mode, and its scenario was played
-pub record HasRun {S : Type 0} (words : List Text) (left : S → Option (List ℕ)) (before after : S) (W : List ℕ → List ℕ → List ℕ → Type 0) (taken_before taken_after : Option (List ℕ)) (played : Option Record) : Type 0 where
+pub record HasRun {S : Type 0} (words : List Text) (left : S → Option (List ℕ)) (before after : S) (W : List ℕ → Type 0) (played : Option Record) : Type 0 where
   pub mode : Mode
   pub asked : AskFor words mode
-  pub run : HasPlayed (IsOfMode left before after mode) (text_of mode) W taken_before taken_after played
+  pub run : HasPlayed (IsOfMode left before after mode) (text_of mode) W played
 
 -- the answer is this one, or want of memory
 abbrev pub DoneOr : Option TopFault → Option TopFault → Type 0
@@ -65,7 +61,7 @@ abbrev pub IsAnswered : Option (List ℕ) → Option TopFault → Type 0
 IsAnswered left answered =
     (xs : List ℕ) → left ≡ Some xs →
     ((s : PlainScenario) → scenario_of xs ≡ Ok s → DoneOr answered None)
-    × ((f : LineFault) → scenario_of (take 90010001 xs) ≡ Err f → DoneOr answered (Some (fault.Scenario f)))
+    × ((f : LineFault) → scenario_of (take INPUT_LIMIT xs) ≡ Err f → DoneOr answered (Some (fault.Scenario f)))
 
 -- what is due in a mode where no device fails: in `play` what the source has is answered; `big` is done, whatever it has
 abbrev pub IsDue : Mode → Type 0 → Type 0 → Option (List ℕ) → Option TopFault → Type 0

@@ -1,29 +1,35 @@
 //! pastry: plays scenarios of a Pastry overlay, and prints what came of them.
 #![tactic(auto)]
 
-mod expected;
+mod asked;
+mod cause;
+mod help;
 mod laws;
 mod message;
 mod modes;
 mod outcome;
 mod progress;
 mod reading;
-mod remembering;
+mod telling;
 #[cfg(test)]
 mod tests;
 mod top;
+mod watched;
 
-use message::Told;
+use cli_words::{Mode, read_words};
 use outcome::TopFault;
-use outside::{FreePass, FromReader, ToWriter};
+use outside::{FromReader, ToWriter};
 use progress::Progress;
-use remembering::Remembering;
+use schedule::make_scenario;
 use std::alloc::Global;
 use std::io;
-use std::io::IsTerminal;
 use std::process::ExitCode;
 use std::rc::RcStr;
+use telling::{
+    tell_memory, tell_refused_words, tell_scenario_fault, tell_system_fault, tell_unreadable_words,
+};
 use top::top;
+use watched::{Seen, WatchedReader, WatchedWriter};
 
 /// The words of the command line, the program's name first.
 fn command_words(rt: &HostRuntime, alloc: Global) -> io::Result<Vec<RcStr>> {
@@ -34,32 +40,82 @@ fn command_words(rt: &HostRuntime, alloc: Global) -> io::Result<Vec<RcStr>> {
     Ok(words)
 }
 
-/// Prints a fault as one line on standard error, with what stands in the input where it is a fault of that. That this fails
-/// is not told: there is nowhere left to tell it.
-fn tell(rt: &HostRuntime, fault: &TopFault, input: &[u8]) {
-    let told = Told { fault, input };
-    let _ = eprintln!(rt; "pastry: {told}");
+/// Ends a run whose words could not be had: one of them is no text, or there is too little memory.
+fn end_without_words(rt: &HostRuntime, error: &io::Error) -> ExitCode {
+    if error.kind() == io::ErrorKind::InvalidData {
+        tell_unreadable_words(rt);
+        ExitCode::from(2)
+    } else {
+        tell_memory(rt);
+        ExitCode::from(6)
+    }
+}
+
+/// Tells progress which scenario `big` makes.
+fn expect_made(alloc: Global, words: &[RcStr], progress: &Progress<'_>) {
+    if !progress.is_told() {
+        return;
+    }
+    if let Ok(Mode::Big { nodes, seed }) = read_words(alloc, words) {
+        if let Ok(scenario) = make_scenario(alloc, nodes, seed) {
+            progress.expect(&scenario);
+        }
+    }
+}
+
+/// What a run met: its words, what it saw of its input, and why its output failed.
+#[derive(Drop)]
+struct Met<'a> {
+    words: &'a [RcStr],
+    input: &'a Seen,
+    output_fault: Option<io::Error>,
+}
+
+/// Tells on standard error why a run did not end well. That this fails is not told: there is nowhere left to tell it.
+fn tell(rt: &HostRuntime, fault: &TopFault, met: &Met<'_>) {
+    let alloc = rt.alloc();
+    match fault {
+        TopFault::Usage => tell_refused_words(rt, alloc, met.words),
+        TopFault::Scenario(fault) => tell_scenario_fault(rt, alloc, fault, met.input.bytes()),
+        TopFault::Read => tell_system_fault(rt, "the input could not be read", met.input.fault),
+        TopFault::Write => tell_system_fault(
+            rt,
+            "the output could not be written",
+            met.output_fault,
+        ),
+        TopFault::OutOfMemory => tell_memory(rt),
+    }
 }
 
 fn main(rt: HostRuntime) -> ExitCode {
     let alloc = rt.alloc();
-    let Ok(words) = command_words(&rt, alloc) else {
-        tell(&rt, &TopFault::OutOfMemory, &[]);
-        return ExitCode::from(6);
+    let words = match command_words(&rt, alloc) {
+        Ok(words) => words,
+        Err(error) => return end_without_words(&rt, &error),
     };
-    let mut input = Vec::new(alloc);
-    let mut source = FromReader::new(Remembering::new(rt.stdin(), &mut input));
-    let mut sink = ToWriter::new(rt.stdout());
-    let outcome = if rt.stderr().is_terminal() {
-        let progress = Progress::new(&rt);
-        let outcome = top(&rt, alloc, &words, &mut source, &mut sink, &progress);
-        progress.end();
-        outcome
-    } else {
-        top(&rt, alloc, &words, &mut source, &mut sink, &FreePass)
-    };
+    let progress = Progress::new(&rt);
+    expect_made(alloc, &words, &progress);
+    let mut input = Seen::new(alloc);
+    let mut output_fault = None;
+    let mut source = FromReader::new(WatchedReader {
+        reader: rt.stdin(),
+        seen: &mut input,
+        progress: &progress,
+    });
+    let mut sink = ToWriter::new(WatchedWriter {
+        writer: rt.stdout(),
+        fault: &mut output_fault,
+        progress: &progress,
+    });
+    let outcome = top(&rt, alloc, &words, &mut source, &mut sink, &progress);
+    progress.wipe();
     if let Some(fault) = &outcome.fault {
-        tell(&rt, fault, &input);
+        let met = Met {
+            words: &words,
+            input: &input,
+            output_fault,
+        };
+        tell(&rt, fault, &met);
     }
     ExitCode::from(outcome.status)
 }

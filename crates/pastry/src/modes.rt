@@ -2,15 +2,15 @@
 
 ghost use Rattle.std.specs.Prelude.{◌≡◌, ◌≢◌, ◌≤◌, ◌↔◌, ◌⊎◌, Some, None, IfOk, IfSome, IsSome, IsNone};
 ghost use Rattle.outside.specs.Rose.{Rose};
-ghost use Rattle.outside.specs.Sink.{BreaksOff};
-ghost use Rattle.outside.specs.Told.{Told};
+ghost use Rattle.scenario_reader.specs.declared.limits.TheConstants.{MOST_NODES};
 ghost use Rattle.scenario_reader.specs.declared.fault.LineFault.{LineFault as Fault};
 ghost use Rattle.schedule.specs.Made.{made};
 ghost use Rattle.delivery_report.specs.Texts.{report_text, summary_text};
 ghost use Rattle.pastry.specs.Faults.{status_of, IsWritingFault};
 ghost use Rattle.pastry.specs.Prepared.{Prepares};
 ghost use Rattle.pastry.specs.Reading.{IsScenario, IsRefused};
-ghost use Rattle.pastry.specs.Runs.{Appends, HasPlayed, IsPlayed};
+ghost use Rattle.pastry.specs.Runs.{HasPlayed, IsPlayed};
+ghost use Rattle.pastry.specs.Written.{IsTaken, IsBrokenOff, WasReadByCalls};
 
 use crate::laws::headline_law;
 use crate::outcome::{Outcome, TopFault};
@@ -77,8 +77,8 @@ fn write_report<K: Sink>(sink: &mut K, prepared: Prepared) -> Outcome
     ensures status { result.status ≡ status_of result.fault }
     ensures fault { (result.fault ≡ None) ⊎ (result.fault ≡ Some TopFault.Write) }
     ensures played { result.played ≡ Some prepared.record }
-    ensures whole { result.fault ≡ None → Told (K.taken sink.old) (K.taken sink.new) (Appends prepared.text) }
-    ensures part { result.fault ≡ Some TopFault.Write → Told (K.taken sink.old) (K.taken sink.new) (BreaksOff prepared.text) }
+    ensures whole { result.fault ≡ None → IsTaken K.takes K.taken sink.old sink.new prepared.text }
+    ensures part { result.fault ≡ Some TopFault.Write → IsBrokenOff K.takes K.taken sink.old sink.new prepared.text }
     ensures unwritten { result.fault ≡ Some TopFault.Write → Rose (K.faults sink.old) (K.faults sink.new) }
     ensures count { K.faults sink.old ≤ K.faults sink.new }
 {
@@ -106,13 +106,14 @@ pub fn play_mode<S: Source, K: Sink, T: Turnstile>(
 ) -> Outcome
     ensures status { result.status ≡ status_of result.fault }
     ensures usage { result.fault ≢ Some TopFault.Usage }
-    ensures done { result.fault ≡ None → HasPlayed (IsScenario (S.left source.old) (S.left source.new)) report_text Appends (K.taken sink.old) (K.taken sink.new) result.played }
-    ensures broken_off { result.fault ≡ Some TopFault.Write → HasPlayed (IsScenario (S.left source.old) (S.left source.new)) report_text BreaksOff (K.taken sink.old) (K.taken sink.new) result.played }
+    ensures done { result.fault ≡ None → HasPlayed (IsScenario (S.left source.old) (S.left source.new)) report_text (IsTaken K.takes K.taken sink.old sink.new) result.played }
+    ensures broken_off { result.fault ≡ Some TopFault.Write → HasPlayed (IsScenario (S.left source.old) (S.left source.new)) report_text (IsBrokenOff K.takes K.taken sink.old sink.new) result.played }
     ensures played { IsSome result.played ↔ ((result.fault ≡ None) ⊎ (result.fault ≡ Some TopFault.Write)) }
     ensures nothing_written { IsNone result.played → sink.new ≡ sink.old }
     ensures refused { (f : Fault) → result.fault ≡ Some (TopFault.Scenario f) → IsRefused (S.left source.old) (S.left source.new) f }
     ensures unread { result.fault ≡ Some TopFault.Read → Rose (S.faults source.old) (S.faults source.new) }
     ensures unwritten { result.fault ≡ Some TopFault.Write → Rose (K.faults sink.old) (K.faults sink.new) }
+    ensures reads { WasReadByCalls S.gives source.old source.new (result.fault ≡ Some TopFault.Read) }
     ensures source_count { S.faults source.old ≤ S.faults source.new }
     ensures sink_count { K.faults sink.old ≤ K.faults sink.new }
 {
@@ -135,11 +136,11 @@ pub fn big_mode<K: Sink, T: Turnstile>(
     turnstile: &T,
 ) -> Outcome
     requires some { 2 ≤ nodes }
-    requires few { nodes ≤ 256 }
+    requires few { nodes ≤ MOST_NODES }
     ensures status { result.status ≡ status_of result.fault }
     ensures kind { IfSome result.fault IsWritingFault }
-    ensures done { result.fault ≡ None → HasPlayed (λ s. s ≡ made nodes seed) summary_text Appends (K.taken sink.old) (K.taken sink.new) result.played }
-    ensures broken_off { result.fault ≡ Some TopFault.Write → HasPlayed (λ s. s ≡ made nodes seed) summary_text BreaksOff (K.taken sink.old) (K.taken sink.new) result.played }
+    ensures done { result.fault ≡ None → HasPlayed (λ s. s ≡ made nodes seed) summary_text (IsTaken K.takes K.taken sink.old sink.new) result.played }
+    ensures broken_off { result.fault ≡ Some TopFault.Write → HasPlayed (λ s. s ≡ made nodes seed) summary_text (IsBrokenOff K.takes K.taken sink.old sink.new) result.played }
     ensures played { IsSome result.played ↔ ((result.fault ≡ None) ⊎ (result.fault ≡ Some TopFault.Write)) }
     ensures nothing_written { IsNone result.played → sink.new ≡ sink.old }
     ensures unwritten { result.fault ≡ Some TopFault.Write → Rose (K.faults sink.old) (K.faults sink.new) }

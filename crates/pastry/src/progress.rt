@@ -1,50 +1,146 @@
-//! How far a long play is, told on a terminal.
+//! How far a long run is, told on a terminal.
 
+use crate::asked::Asked;
+use crate::message::Grouped;
 use outside::Turnstile;
-use std::time::{Duration, Instant};
+use scenario_reader::Scenario;
+use std::fmt;
+use std::io::IsTerminal;
+use std::sync::atomic::{AtomicU64, Ordering};
+use std::time::Instant;
 
-/// After so many turns the clock is read.
-const TURNS: u64 = 65_536;
+/// Nothing is told for so many milliseconds.
+const PATIENCE: u64 = 1_000;
 
-/// A turnstile that holds nobody up. Once a second has gone, it tells on standard error how many turns were passed.
+/// From then on it is told after so many milliseconds again.
+const INTERVAL: u64 = 500;
+
+/// The clock is read after so many turns. None takes a hundredth of a second.
+const TURNS: u64 = 64;
+
+/// How far a run is.
+#[derive(Clone, Copy)]
+enum Stage {
+    Reading { bytes: u64 },
+    /// The turns of a play, and how many it has at most, 0 if that is not known.
+    Playing { turns: u64, most: u64 },
+}
+
+impl fmt::Display for Stage {
+    fn fmt<W: fmt::Write>(&self, f: &mut fmt::Formatter<W>) -> fmt::Result {
+        match *self {
+            Stage::Reading { bytes } => write!(f, "{} bytes read", Grouped(bytes)),
+            Stage::Playing { turns, most: 0 } => write!(f, "{} turns played", Grouped(turns)),
+            Stage::Playing { turns, most } => {
+                write!(
+                    f,
+                    "{} of at most {} turns played",
+                    Grouped(turns),
+                    Grouped(most)
+                )
+            }
+        }
+    }
+}
+
+/// Tells on standard error how far a run is, in one line that is written anew. It is a turnstile that holds nobody up.
 #[derive(Drop)]
 pub(crate) struct Progress<'a> {
     rt: &'a HostRuntime,
-    /// Where the clock can't be read, nothing is told.
+    /// None if nothing is told: standard error is no terminal, or the clock can't be read.
     begun: Option<Instant>,
+    /// Whether the input is typed. Then it is not told how much of it was read.
+    is_typed: bool,
+    /// So many milliseconds from the beginning it is told again.
+    due: AtomicU64,
+    /// Whether there is a line to be wiped, 1 or 0.
+    told: AtomicU64,
+    /// The most turns that the play has, 0 if that is not known.
+    most: AtomicU64,
 }
 
 impl Progress<'_> {
     pub(crate) fn new(rt: &HostRuntime) -> Progress<'_> {
+        let begun = if rt.stderr().is_terminal() {
+            Instant::now(rt).ok()
+        } else {
+            None
+        };
         Progress {
             rt,
-            begun: Instant::now(rt).ok(),
+            begun,
+            is_typed: rt.stdin().is_terminal(),
+            due: AtomicU64::new(PATIENCE),
+            told: AtomicU64::new(0),
+            most: AtomicU64::new(0),
         }
     }
 
-    /// Clears the line in which turns were told.
-    pub(crate) fn end(&self) {
-        if self.is_long() {
+    /// Whether anything is told.
+    pub(crate) fn is_told(&self) -> bool {
+        self.begun.is_some()
+    }
+
+    /// Learns which scenario is to be played.
+    pub(crate) fn expect(&self, scenario: &Scenario) {
+        let most = Asked::by(scenario.actions()).most_turns();
+        self.most.store(most, Ordering::SeqCst);
+    }
+
+    /// Tells that so many bytes were read, if that is due.
+    pub(crate) fn tell_read(&self, bytes: usize) {
+        if self.is_typed {
+            self.begin_anew();
+        } else {
+            self.tell(Stage::Reading {
+                bytes: bytes as u64,
+            });
+        }
+    }
+
+    /// From here on again nothing is told for a while.
+    fn begin_anew(&self) {
+        if let Some(gone) = self.gone() {
+            self.due
+                .store(gone.saturating_add(PATIENCE), Ordering::SeqCst);
+        }
+    }
+
+    /// Wipes the line, if there is one.
+    pub(crate) fn wipe(&self) {
+        if self.told.swap(0, Ordering::SeqCst) == 1 {
             let _ = eprint!(self.rt; "\r\x1b[K");
         }
     }
 
-    /// Whether a second has gone.
-    fn is_long(&self) -> bool {
-        let Some(begun) = &self.begun else {
-            return false;
+    /// Tells how far the run is, if that is due.
+    fn tell(&self, stage: Stage) {
+        let Some(gone) = self.gone() else {
+            return;
         };
-        match begun.elapsed(self.rt) {
-            Ok(gone) => gone >= Duration::from_secs(1),
-            Err(_) => false,
+        if gone >= self.due.load(Ordering::SeqCst) {
+            self.due
+                .store(gone.saturating_add(INTERVAL), Ordering::SeqCst);
+            self.told.store(1, Ordering::SeqCst);
+            let _ = eprint!(self.rt; "\r\x1b[Kpastry: {stage}");
         }
+    }
+
+    /// How many milliseconds have gone by; None if nothing is told.
+    fn gone(&self) -> Option<u64> {
+        let begun = self.begun?;
+        let gone = begun.elapsed(self.rt).ok()?;
+        u64::try_from(gone.as_millis()).ok()
     }
 }
 
 impl Turnstile for Progress<'_> {
     fn pass(&self, _node: usize, turn: u64) {
-        if turn % TURNS == TURNS - 1 && self.is_long() {
-            let _ = eprint!(self.rt; "\rpastry: {turn} turns played");
+        if turn % TURNS == 0 {
+            self.tell(Stage::Playing {
+                turns: turn,
+                most: self.most.load(Ordering::SeqCst),
+            });
         }
     }
 }

@@ -5,14 +5,15 @@ ghost use Rattle.outside.specs.Rose.{Rose};
 ghost use Rattle.scenario_reader.specs.declared.fault.LineFault.{LineFault as Fault};
 ghost use Rattle.pastry.specs.Reading.{IsScenario, IsRefused};
 ghost use Rattle.pastry.specs.Faults.{IsReadingFault};
+ghost use Rattle.pastry.specs.Written.{WasReadByCalls};
 
 use crate::outcome::TopFault;
 use outside::{ReadFault, Source, read_to_limit};
-use scenario_reader::{LineFault, Scenario, read_scenario};
+use scenario_reader::{LineFault, MOST_LINE_BYTES, MOST_LINES, Scenario, read_scenario};
 use std::alloc::Global;
 
-/// No scenario has so many bytes: a longer input has a line that is too long, or a line too many.
-const INPUT_LIMIT: usize = 90_010_001;
+/// One byte more than the longest scenario has: a longer input has a line that is too long, or a line too many.
+const INPUT_LIMIT: usize = MOST_LINES as usize * (MOST_LINE_BYTES + 1) + 1;
 
 /// Reads a scenario from a source.
 pub fn read_input<S: Source>(alloc: Global, source: &mut S) -> Result<Scenario, TopFault>
@@ -20,6 +21,7 @@ pub fn read_input<S: Source>(alloc: Global, source: &mut S) -> Result<Scenario, 
     ensures kind { IfErr result IsReadingFault }
     ensures refused { (f : Fault) → result ≡ Err (TopFault.Scenario f) → IsRefused (S.left source.old) (S.left source.new) f }
     ensures unread { result ≡ Err TopFault.Read → Rose (S.faults source.old) (S.faults source.new) }
+    ensures calls { WasReadByCalls S.gives source.old source.new (result ≡ Err TopFault.Read) }
     ensures count { S.faults source.old ≤ S.faults source.new }
 {
     let bytes = match read_to_limit(alloc, source, INPUT_LIMIT) {

@@ -2,6 +2,8 @@
 
 ghost use Rattle.std.specs.Prelude.{◌<◌, length};
 
+mod messages;
+
 use crate::top::top;
 use outside::{FreePass, MemorySink, MemorySource};
 use ring_math::OutOfMemory;

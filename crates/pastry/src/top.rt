@@ -3,13 +3,13 @@
 ghost use Rattle.std.specs.Prelude.{◌≡◌, ◌≢◌, ◌≤◌, ◌↔◌, ◌⊎◌, ℕ, map, Some, None, IsSome, IsNone};
 ghost use Rattle.std.specs.Rc.{rc_str_bytes};
 ghost use Rattle.outside.specs.Rose.{Rose};
-ghost use Rattle.outside.specs.Sink.{BreaksOff};
 ghost use Rattle.scenario_reader.specs.declared.fault.LineFault.{LineFault as Fault};
 ghost use Rattle.cli_words.specs.declared.mode.Mode.{Mode as Asked};
 ghost use Rattle.pastry.specs.Asked.{AskFor, AreUsage, NamePlainly};
 ghost use Rattle.pastry.specs.Faults.{status_of};
 ghost use Rattle.pastry.specs.Reading.{IsRefused};
-ghost use Rattle.pastry.specs.Runs.{Appends, HasRun, IsDue};
+ghost use Rattle.pastry.specs.Runs.{HasRun, IsDue};
+ghost use Rattle.pastry.specs.Written.{IsTaken, IsBrokenOff, WasReadByCalls};
 
 use crate::modes::{big_mode, play_mode};
 use crate::outcome::{Outcome, TopFault};
@@ -38,14 +38,17 @@ pub fn top<R: Threads + Wait + Sync, S: Source, K: Sink, T: Turnstile + Sync>(
 
     // Without a fault the words ask for a mode, and its scenario was played: in `play` the source was read to its end, and what it
     // had is that scenario; in `big` it was made, and the source is as it was. The record is the scenario's played record, and
-    // the headline holds of it: one owner per key, and one plain table of files. The sink took its whole text. With a fault of
-    // the sink all is the same, but for the text, which breaks off.
-    ensures done { result.fault ≡ None → HasRun (map rc_str_bytes words.now) S.left source.old source.new Appends (K.taken sink.old) (K.taken sink.new) result.played }
-    ensures broken_off { result.fault ≡ Some TopFault.Write → HasRun (map rc_str_bytes words.now) S.left source.old source.new BreaksOff (K.taken sink.old) (K.taken sink.new) result.played }
+    // the headline holds of it: one owner per key, and one plain table of files. The sink took its whole text, by calls that
+    // offered each time what was left. With a fault of the sink all is the same, but for the text, which breaks off at the call
+    // that failed.
+    ensures done { result.fault ≡ None → HasRun (map rc_str_bytes words.now) S.left source.old source.new (IsTaken K.takes K.taken sink.old sink.new) result.played }
+    ensures broken_off { result.fault ≡ Some TopFault.Write → HasRun (map rc_str_bytes words.now) S.left source.old source.new (IsBrokenOff K.takes K.taken sink.old sink.new) result.played }
 
-    // Each fault has its cause. Want of memory alone is free. Usage and `big` leave the source as it is.
+    // Each fault has its cause. Want of memory alone is free. The source is as it was unless the words ask for `play`; then it was
+    // read by calls, of which one that failed was the last. So Usage and `big` leave it as it is.
     ensures usage { result.fault ≡ Some TopFault.Usage → AreUsage (map rc_str_bytes words.now) }
     ensures nothing_read { result.fault ≡ Some TopFault.Usage → source.new ≡ source.old }
+    ensures untouched { (source.new ≡ source.old) ⊎ (AskFor (map rc_str_bytes words.now) Mode.Play × WasReadByCalls S.gives source.old source.new (result.fault ≡ Some TopFault.Read)) }
     ensures left_alone { (nodes seed : ℕ) → NamePlainly (map rc_str_bytes words.now) (Mode.Big nodes seed) → source.new ≡ source.old }
     ensures refused { (f : Fault) → result.fault ≡ Some (TopFault.Scenario f) → AskFor (map rc_str_bytes words.now) Mode.Play × IsRefused (S.left source.old) (S.left source.new) f }
     ensures unread { result.fault ≡ Some TopFault.Read → AskFor (map rc_str_bytes words.now) Mode.Play × Rose (S.faults source.old) (S.faults source.new) }

@@ -69,8 +69,10 @@ advanced s a spot = moved_to spot (progress_after (next_turn s a).step a)
 play_goes : (s : PlainScenario) (a : Progress) (spot : Spot) (t : Turn) → IsNext s a spot t →
     play_in (advanced s a spot) ≡ play_after (next_turn s a) (play_in a)
 play_goes s a spot t next =
-    ap (λ (w : World). record { world = w; copies = spot.copies; skipped = skipped_after (next_turn s a).step a.skipped }) (world_goes (next_turn s a).step a.recorded) ∙
-    ap (λ n. record { world = world_after (next_turn s a).step (world_of a.recorded); copies = n; skipped = skipped_after (next_turn s a).step a.skipped }) next.copies
+    ap (λ (w : World). record { world = w; copies = spot.copies; skipped = skipped_after (next_turn s a).step a.skipped })
+    (world_goes (next_turn s a).step a.recorded) ∙
+    ap (λ n. record { world = world_after (next_turn s a).step (world_of a.recorded); copies = n; skipped = skipped_after (next_turn s a).step a.skipped })
+    next.copies
 
 -- what is left plays on from there
 pub played_after : (s : PlainScenario) (a : Progress) (spot : Spot) (t : Turn) → Plays s a → IsNext s a spot t →
@@ -87,7 +89,8 @@ plays_after s a spot t rules h next = record {
   newest = newest_after s a spot t (next_turn s a).step rules h next.place next.step;
 }
 
-pub takes_turn : (s : PlainScenario) (a : Progress) (spot : Spot) (t : Turn) → IsNext s a spot t → (next_turn s a).step ≢ Ends → TakesTurn s a (advanced s a spot)
+pub takes_turn : (s : PlainScenario) (a : Progress) (spot : Spot) (t : Turn) → IsNext s a spot t → (next_turn s a).step ≢ Ends →
+    TakesTurn s a (advanced s a spot)
 takes_turn s a spot t next some = record { some = some; play = play_goes s a spot t next; left = next.left }
 
 pub begins : (s : PlainScenario) (a : Progress) → Plays s a → IsBeginning (play_in a) (play_of s)

@@ -1,11 +1,12 @@
 -- A command's number is one more than the commands before it.
-use Rattle.std.proofs.Common.{◌≡◌, ◌<◌, ◌≤◌, ℕ, zero, suc, ◌+◌, Option, Some, None, List, [], ◌∷◌, length, take, slice_index_or, option_map, Contains, refl, sym, subst, ap, ◌∙◌, arith}
+use Rattle.std.proofs.Common.{◌≡◌, ◌<◌, ◌≤◌, ℕ, zero, suc, ◌+◌, Option, Some, None, List, [], ◌∷◌, length, take, slice_index_or, option_map, Contains, refl}
+use Rattle.std.proofs.Common.{sym, subst, ap, ◌∙◌, arith}
 use Rattle.wire_msg.specs.declared.command.Command.{Command as NodeCommand}
 use Rattle.wire_msg.specs.declared.command.Command.TheVariants as command
 use Rattle.overlay_rules.specs.declared.entry.Event.{Event}
 use Rattle.overlay_rules.specs.declared.entry.Event.TheVariants as event
 use Rattle.overlay_rules.specs.Record.{Setting}
-use Rattle.ring_laws.specs.Receivers.{ViaIs}
+use Rattle.step_facts.specs.Receivers.{ViaIs}
 use Rattle.scenario_reader.specs.declared.action.Action.{Action}
 use Rattle.scenario_reader.specs.declared.action.What.{What}
 use Rattle.scenario_reader.specs.declared.action.What.TheVariants as what

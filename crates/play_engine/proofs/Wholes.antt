@@ -1,5 +1,6 @@
 -- What a made turn comes to. A player has no turn left exactly where its record is the played record.
-use Rattle.std.proofs.Common.{◌≡◌, ◌≢◌, ◌<◌, ◌≤◌, ℕ, ◌+◌, Bool, true, false, MatchBool, Some, List, [], ◌∷◌, length, refl, sym, subst, ap, ◌∙◌, arith, length-append}
+use Rattle.std.proofs.Common.{◌≡◌, ◌≢◌, ◌<◌, ◌≤◌, ℕ, ◌+◌, Bool, true, false, MatchBool, Some, List, [], ◌∷◌, length, refl, sym, subst, ap, ◌∙◌, arith}
+use Rattle.std.proofs.Common.{length-append}
 use Rattle.overlay_rules.specs.declared.entry.Entry.{Entry}
 use Rattle.overlay_rules.specs.Record.{Setting, World, IsRecord, sent_in}
 use Rattle.overlay_rules.specs.Played.{Play, entry_of, oldest_undelivered}
@@ -65,7 +66,8 @@ ends actions turn.Finished step none is = sym (some_same is)
 
 pub whole : (s : PlainScenario) (a : Progress) → Plays s a → (next_turn s a).step ≡ Ends → IsWhole s a.recorded.entries a.skipped
 whole s a h ended =
-    let all = played_whole s a.spot (play_in a) (length (sent_in (world_of a.recorded).past)) (oldest_undelivered (world_of a.recorded)) refl refl ended h.played in
+    let all = played_whole s a.spot (play_in a) (length (sent_in (world_of a.recorded).past))
+    (oldest_undelivered (world_of a.recorded)) refl refl ended h.played in
     record { entries = sym (past_of a.recorded) ∙ ap (λ (w : World). w.past) all.0; skips = all.1 }
 
 pub not_whole : (s : PlainScenario) (a : Progress) (spot : Spot) (t : Turn) → KeepsRules s → Plays s a → IsNext s a spot t → (next_turn s a).step ≢ Ends →
@@ -83,7 +85,8 @@ not_whole s a spot t rules h next some all =
 abbrev pub IsMade : List Action → Turn → Progress → Progress → Type 0
 IsMade actions t old new = (step : Step) → step_of actions t ≡ Some step → new ≡ progress_after step old
 
-made_next : (s : PlainScenario) (a b : Progress) (spot : Spot) (t : Turn) (actions : List Action) → actions ≡ s.actions → IsNext s a spot t → IsMade actions t a b →
+made_next : (s : PlainScenario) (a b : Progress) (spot : Spot) (t : Turn) (actions : List Action) → actions ≡ s.actions → IsNext s a spot t →
+    IsMade actions t a b →
     b ≡ progress_after (next_turn s a).step a
 made_next s a b spot t actions same next made = made (next_turn s a).step (ap (λ (xs : List Action). step_of xs t) same ∙ next.step)
 
@@ -113,7 +116,8 @@ pub record Goes (s : PlainScenario) (a b : Progress) : Type 0 where
   pub turn : TakesTurn s a b
   pub not_whole : IsWhole s a.recorded.entries a.skipped → ⊥
 
-pub goes : (s : PlainScenario) (a b : Progress) (spot : Spot) (t : Turn) (actions : List Action) → KeepsRules s → actions ≡ s.actions → Plays s a → IsNext s a spot t →
+pub goes : (s : PlainScenario) (a b : Progress) (spot : Spot) (t : Turn) (actions : List Action) → KeepsRules s → actions ≡ s.actions → Plays s a →
+    IsNext s a spot t →
     IsMade actions t a b → is_some t ≡ true → Goes s a (moved_to spot b)
 goes s a b spot t actions rules listed h next made some =
     let left = not_ends s.actions t (next_turn s a).step some next.step in
@@ -146,7 +150,8 @@ less_left s a b h =
 pub whole_record : (s : PlainScenario) (es fs : List Entry) (n m : ℕ) → IsWhole s es n → fs ≡ es → m ≡ n → IsWhole s fs m
 whole_record s es fs n m h entries skips = record { entries = entries ∙ h.entries; skips = skips ∙ h.skips }
 
-pub legal_record : (s : PlainScenario) (a : Progress) (es : List Entry) → Plays s a → IsRecord (setting_in a.recorded) a.recorded.entries → es ≡ a.recorded.entries →
+pub legal_record : (s : PlainScenario) (a : Progress) (es : List Entry) → Plays s a → IsRecord (setting_in a.recorded) a.recorded.entries →
+    es ≡ a.recorded.entries →
     IsRecord (setting_of s) es
 legal_record s a es h legal same =
     subst (λ (xs : List Entry). IsRecord (setting_of s) xs) (sym same)

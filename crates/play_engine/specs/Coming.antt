@@ -2,7 +2,7 @@
 use Rattle.std.specs.Prelude.{◌<◌, ◌+◌, ◌^◌, Bool, true, false, List, length, slice_index_or, Contains}
 use Rattle.overlay_rules.specs.declared.entry.Event.TheVariants as event
 use Rattle.overlay_rules.specs.Record.{sent_in}
-use Rattle.ring_laws.specs.Receivers.{ViaIs}
+use Rattle.step_facts.specs.Receivers.{ViaIs}
 use Rattle.scenario_reader.specs.declared.action.Action.{Action}
 use Rattle.scenario_reader.specs.declared.action.What.{What}
 use Rattle.scenario_reader.specs.declared.action.What.TheVariants as what

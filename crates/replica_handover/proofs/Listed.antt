@@ -1,5 +1,6 @@
 -- The files of the entries that pass a test, one entry more at a time.
-use Rattle.std.proofs.Common.{◌≡◌, ℕ, ◌+◌, ◌<◌, ◌≤◌, Bool, true, false, List, [], ◌∷◌, ◌++◌, length, get_or, take, map, filter, refl, sym, ◌∙◌, ap, arith, append-nil, length-take-le, IsTrue, ◌↔◌}
+use Rattle.std.proofs.Common.{◌≡◌, ℕ, ◌+◌, ◌<◌, ◌≤◌, Bool, true, false, List, [], ◌∷◌, ◌++◌, length, get_or, take, map, filter, refl, sym, ◌∙◌, ap}
+use Rattle.std.proofs.Common.{arith, append-nil, length-take-le, IsTrue, ◌↔◌}
 use Rattle.std.proofs.lemmas.List.{take_more}
 use Rattle.std.specs.Bool.{OnTrue}
 use Rattle.ring_math.specs.Roomy.{Roomy}
@@ -15,13 +16,17 @@ passed-append p (x ∷ xs) ys = by_test (p x) (λ e. rw (e, passed-append p xs y
   by_test true f g = f refl
   by_test false f g = g refl
 
-pub passed-more : (p : Held → Bool) (hs : List Held) (i : ℕ) (h : Held) → i < length hs → h ≡ get_or hs i h → p h ≡ true → passed p (take (i + 1) hs) ≡ passed p (take i hs) ++ h.file ∷ []
+pub passed-more : (p : Held → Bool) (hs : List Held) (i : ℕ) (h : Held) → i < length hs → h ≡ get_or hs i h → p h ≡ true →
+    passed p (take (i + 1) hs) ≡ passed p (take i hs) ++ h.file ∷ []
 passed-more p hs i h l e t =
-    ap (passed p) (take_more hs i h l) ∙ passed-append p (take i hs) (get_or hs i h ∷ []) ∙ ap (λ ys. passed p (take i hs) ++ ys) (ap (λ g. passed p (g ∷ [])) (sym e) ∙ rw t refl)
+    ap (passed p) (take_more hs i h l) ∙ passed-append p (take i hs) (get_or hs i h ∷ [])
+    ∙ ap (λ ys. passed p (take i hs) ++ ys) (ap (λ g. passed p (g ∷ [])) (sym e) ∙ rw t refl)
 
-pub passed-kept : (p : Held → Bool) (hs : List Held) (i : ℕ) (h : Held) → i < length hs → h ≡ get_or hs i h → p h ≡ false → passed p (take (i + 1) hs) ≡ passed p (take i hs)
+pub passed-kept : (p : Held → Bool) (hs : List Held) (i : ℕ) (h : Held) → i < length hs → h ≡ get_or hs i h → p h ≡ false →
+    passed p (take (i + 1) hs) ≡ passed p (take i hs)
 passed-kept p hs i h l e t =
-    ap (passed p) (take_more hs i h l) ∙ passed-append p (take i hs) (get_or hs i h ∷ []) ∙ ap (λ ys. passed p (take i hs) ++ ys) (ap (λ g. passed p (g ∷ [])) (sym e) ∙ rw t refl) ∙ append-nil (passed p (take i hs))
+    ap (passed p) (take_more hs i h l) ∙ passed-append p (take i hs) (get_or hs i h ∷ [])
+    ∙ ap (λ ys. passed p (take i hs) ++ ys) (ap (λ g. passed p (g ∷ [])) (sym e) ∙ rw t refl) ∙ append-nil (passed p (take i hs))
 
 passed-fewer : (p : Held → Bool) (hs : List Held) → length (passed p hs) ≤ length hs
 passed-fewer p [] = omega arith
@@ -34,7 +39,8 @@ pub passed-within : (p : Held → Bool) (hs : List Held) (i : ℕ) → i ≤ len
 passed-within p hs i l = let fewer = passed-fewer p (take i hs) in let taken = length-take-le i hs l in omega arith
 
 -- where the room is not used, a push adds the file
-pub pushed : (old new : Roomy) (f : List ℕ) (r : Bool) → (IsTrue r ↔ (length old.files < old.room)) → OnTrue r (new ≡ record old { files = old.files ++ f ∷ [] }) →
+pub pushed : (old new : Roomy) (f : List ℕ) (r : Bool) → (IsTrue r ↔ (length old.files < old.room)) →
+    OnTrue r (new ≡ record old { files = old.files ++ f ∷ [] }) →
     length old.files < old.room → new ≡ record old { files = old.files ++ f ∷ [] }
 pushed old new f true answer added l = added
 pushed old new f false answer added l = let never = answer.1 l in cc

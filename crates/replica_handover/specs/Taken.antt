@@ -13,6 +13,11 @@ abbrev pub kept : Option Lists → Lists → Option Lists
 kept None new = Some new
 kept (Some first) new = Some first
 
+-- the lists of a side once more are kept, or none
+abbrev pub kept_or : Option Lists → Option Lists → Option Lists
+kept_or (Some first) new = Some first
+kept_or None new = new
+
 -- the lists are kept, and each file of the manifest has an entry and each of the tombs is a tombstone
 abbrev pub is_done : List Held → Option Lists → Bool
 is_done files None = false

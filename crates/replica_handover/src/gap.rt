@@ -1,6 +1,7 @@
 //! The lists of a gap.
 
 ghost use Rattle.std.specs.Prelude.{◌≡◌, ◌≤◌, ◌&&◌, IfOk, length, is_some, is_none};
+ghost use Rattle.ring_math.specs.declared.limits.TheConstants.{MOST_ENTRIES};
 ghost use Rattle.coverage.specs.GapFiles.{files_in_gap, tombs_in_gap, is_in_gap};
 
 use coverage::{Reach, is_in_gap};
@@ -62,7 +63,7 @@ fn is_tomb_of(held: &Held, reach: &Reach, joiner: Id) -> bool
 
 /// These files with room for no more, since a gate keeps its lists for as long as it stands.
 fn fitted(alloc: Global, files: &[FileId]) -> Result<FileIds, OutOfMemory>
-    requires { length files.now ≤ 4096 }
+    requires { length files.now ≤ MOST_ENTRIES }
     ensures { IfOk result (λ list. list.files ≡ files.now) }
 {
     let mut list = FileIds::with_room(alloc, files.len())?;

@@ -1,10 +1,10 @@
 //! What a joiner takes over, and whether it has all of it.
 
 ghost use Rattle.std.specs.Prelude.{◌≡◌, IfOk, None, option_copied};
-ghost use Rattle.replica_handover.specs.Taken.{kept, is_done, is_complete};
+ghost use Rattle.replica_handover.specs.Taken.{kept, kept_or, is_done, is_complete};
 
 use file_store::FileStore;
-use ring_math::{FileId, FileIds, OutOfMemory};
+use ring_math::{FileIds, OutOfMemory};
 use std::alloc::Global;
 use std::marker::Model;
 
@@ -30,16 +30,18 @@ impl Pledge {
         Pledge { manifest, tombs }
     }
 
-    pub fn manifest(&self) -> &[FileId]
-        ensures { result.now ≡ self.now.manifest }
+    /// The files with bytes.
+    pub fn manifest(&self) -> &FileIds
+        ensures { result.now.files ≡ self.now.manifest }
     {
-        self.manifest.as_slice()
+        &self.manifest
     }
 
-    pub fn tombs(&self) -> &[FileId]
-        ensures { result.now ≡ self.now.tombs }
+    /// The tombstones.
+    pub fn tombs(&self) -> &FileIds
+        ensures { result.now.files ≡ self.now.tombs }
     {
-        self.tombs.as_slice()
+        &self.tombs
     }
 
     /// The same lists in memory of their own.
@@ -78,6 +80,13 @@ impl Taking {
         }
     }
 
+    /// What these sides pledged.
+    pub fn of(left: Option<Pledge>, right: Option<Pledge>) -> Taking
+        ensures { result ≡ record { left = left; right = right } }
+    {
+        Taking { left, right }
+    }
+
     /// Keeps the lists of the left side, unless it has some. It takes no memory.
     pub fn expect_left(&mut self, manifest: FileIds, tombs: FileIds)
         ensures { self.new ≡ record self.old { left = kept self.old.left (record { manifest = manifest.files; tombs = tombs.files }) } }
@@ -94,6 +103,15 @@ impl Taking {
         if self.right.is_none() {
             self.right = Some(Pledge { manifest, tombs });
         }
+    }
+
+    /// Keeps what these sides pledged, each unless it has some. It takes no memory.
+    pub fn keep(&mut self, given: Taking)
+        ensures { self.new ≡ record { left = kept_or self.old.left given.left; right = kept_or self.old.right given.right } }
+    {
+        let Taking { left, right } = given;
+        keep_side(&mut self.left, left);
+        keep_side(&mut self.right, right);
     }
 
     /// What the left side pledged.
@@ -127,12 +145,21 @@ impl Taking {
     }
 }
 
+/// What a side pledged first is kept.
+fn keep_side(side: &mut Option<Pledge>, new: Option<Pledge>)
+    ensures { side.new ≡ kept_or side.old new }
+{
+    if side.is_none() {
+        *side = new;
+    }
+}
+
 /// Whether the side has pledged, and the store has all of it.
 fn is_kept(side: &Option<Pledge>, store: &FileStore) -> bool
     ensures { result ≡ is_done store.now.files side.now }
 {
     match side {
-        Some(pledge) => store.has_lists(pledge.manifest(), pledge.tombs()),
+        Some(pledge) => store.has_lists(pledge.manifest().as_slice(), pledge.tombs().as_slice()),
         None => false,
     }
 }

@@ -94,6 +94,12 @@ fn a_joiner_waits_for_all_that_was_pledged(rt: HostRuntime) -> Result<(), Fail> 
     assert!(rt; taking.right().is_none());
     taking.expect_right(list(alloc, &[1])?, list(alloc, &[])?);
     taking.expect_right(list(alloc, &[9])?, list(alloc, &[9])?);
+    let later = Pledge::new(list(alloc, &[9])?, list(alloc, &[])?);
+    taking.keep(Taking::of(Some(later), None));
+    assert!(rt;
+        taking.left().is_some_and(|kept| kept.manifest().as_slice()
+            == [file(1), file(2)].as_slice())
+    );
     let copy = taking.copy(alloc)?;
     assert!(rt; !copy.complete(&store));
     store.bury(alloc, file(3))?;

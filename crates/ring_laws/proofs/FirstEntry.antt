@@ -9,32 +9,32 @@ use Rattle.wire_msg.specs.Words.{Envelope}
 use Rattle.overlay_rules.specs.declared.entry.Event.TheVariants as event
 use Rattle.overlay_rules.specs.declared.entry.Entry.{Entry}
 use Rattle.overlay_rules.specs.Outcome.{Command}
-use Rattle.overlay_rules.specs.Record.{IsSaidBy, IsRecord}
+use Rattle.overlay_rules.specs.Record.{IsSetting, Legal}
 use Rattle.overlay_rules.proofs.Each.{Each-all}
-use Rattle.ring_laws.specs.Setting.{setting}
+use Rattle.step_facts.specs.Setting.{setting}
 
 first : List Envelope → List Note → Entry
 first messages notes = record { event = event.Command 9 0 (command.Join 7); messages = messages; notes = notes }
 
-one_entry : IsRecord (setting (7 ∷ (9 ∷ [])) 9) (first [] (note.Closed 0 (answer.Stopped 9 own.Already) ∷ []) ∷ [])
-unfolding first
-one_entry = record {
-  setting = record { in_ring = Each-all (λ x. x < 2 ^ 128) (7 ∷ (9 ∷ [])) (omega arith, (omega arith, tt)); differ = refl; founder = (1, omega arith, refl) };
-  said = Each-all (λ (e : Entry). IsSaidBy e.event) (first [] (note.Closed 0 (answer.Stopped 9 own.Already) ∷ []) ∷ []) (omega arith, tt);
-  legal = (
-    record {
-      at = record { node = 9; input = Command 0 (command.Join 7) };
-      is_at = refl;
-      member = (1, omega arith, refl);
-      fresh = λ k d lt. absurd (omega arith);
-      messages = refl;
-      notes = refl;
-    },
-    tt,
-  );
-}
+pub two_nodes : IsSetting (setting (7 ∷ (9 ∷ [])) 9)
+two_nodes = record { in_ring = Each-all (λ x. x < 2 ^ 128) (7 ∷ (9 ∷ [])) (omega arith, (omega arith, tt)); differ = refl; founder = (1, omega arith, refl) }
 
-pub founder_is_told : (es : List Entry) (messages : List Envelope) (notes : List Note) → messages ≡ [] → notes ≡ note.Closed 0 (answer.Stopped 9 own.Already) ∷ [] →
-    es ≡ record { event = event.Command 9 0 (command.Join 7); messages = messages; notes = notes } ∷ [] → IsRecord (setting (7 ∷ (9 ∷ [])) 9) es
+one_entry : Legal (setting (7 ∷ (9 ∷ [])) 9) (first [] (note.Closed 0 (answer.Stopped 9 own.Already) ∷ []) ∷ [])
 unfolding first
-founder_is_told es messages notes e f g = subst (IsRecord (setting (7 ∷ (9 ∷ [])) 9)) (sym (g ∙ (λ i. first (e i) (f i) ∷ []))) one_entry
+one_entry = (
+  record {
+    at = record { node = 9; input = Command 0 (command.Join 7) };
+    is_at = refl;
+    member = (1, omega arith, refl);
+    fresh = λ k d lt. absurd (omega arith);
+    messages = refl;
+    notes = refl;
+  },
+  tt,
+)
+
+pub founder_is_told : (es : List Entry) (messages : List Envelope) (notes : List Note) → messages ≡ [] →
+    notes ≡ note.Closed 0 (answer.Stopped 9 own.Already) ∷ [] →
+    es ≡ record { event = event.Command 9 0 (command.Join 7); messages = messages; notes = notes } ∷ [] → Legal (setting (7 ∷ (9 ∷ [])) 9) es
+unfolding first
+founder_is_told es messages notes e f g = subst (Legal (setting (7 ∷ (9 ∷ [])) 9)) (sym (g ∙ (λ i. first (e i) (f i) ∷ []))) one_entry

@@ -2,17 +2,19 @@
 use Rattle.std.proofs.Common.{◌≡◌, ◌⊎◌, inl, inr, ℕ, Bool, true, false, not, ◌&&◌, ◌||◌, ◌==◌, Option, Some, None, refl, sym, subst, ap, ◌∙◌}
 use Rattle.std.proofs.lemmas.Bool.{cond-true, cond-false, cases_Bool, and_parts}
 use Rattle.std.proofs.lemmas.Bool.Decides.{Decides-eqb}
+use Rattle.ring_math.specs.Names.{Id, Attempt}
 use Rattle.ring_math.specs.Ring.{is_between}
 use Rattle.coverage.specs.Coverage.{or_else}
 use Rattle.coverage.specs.GapFiles.{Lists}
-use Rattle.wire_msg.specs.Words.{Message, Lookup, LookupReply, Insert, InsertReply, Fetch, FetchReply, JoinRequest, JoinReply, JoinRefuse, Probe, ProbeReply, LeaseRequest, Grant, Deny, Handover, Release, Confirm, Announce, Replicate, ReplicaAck, Reclaim, ReclaimReply}
+use Rattle.wire_msg.specs.Words.{Message, Lookup, LookupReply, Insert, InsertReply, Fetch, FetchReply, JoinRequest, JoinReply, JoinRefuse, Probe, ProbeReply}
+use Rattle.wire_msg.specs.Words.{LeaseRequest, Grant, Deny, Handover, Release, Confirm, Announce, Replicate, ReplicaAck, Reclaim, ReclaimReply}
 use Rattle.overlay_rules.specs.declared.gate.Gate.{Gate}
 use Rattle.overlay_rules.specs.State.{State, Lease, Phase, Waiting, Asking, Probing, Leasing, Ready, is_ready, bare}
 use Rattle.overlay_rules.specs.Outcome.{Outcome, Input, Command, Comes, Noise}
-use Rattle.overlay_rules.specs.Gates.{is_of, is_older, unless, busy_with, blocked_by, fits, gate_on, link_after}
-use Rattle.overlay_rules.specs.Gatekeeper.{links_of, unless_lease, without_gates, cleared, confirmed, lease_of, with_lease}
+use Rattle.overlay_rules.specs.Gates.{Links, is_of, is_older, unless, asked_for, busy_with, blocked_by, fits, gate_on, link_after}
+use Rattle.overlay_rules.specs.Gatekeeper.{links_of, unless_lease, without_gates, cleared, confirmed, with_lease}
 use Rattle.overlay_rules.proofs.Seat.{Seat, SameSeat}
-use Rattle.overlay_rules.proofs.Seat as row
+use Rattle.overlay_rules.proofs.Seat as rule
 use Rattle.overlay_rules.proofs.SeatStep.{new_lists}
 
 -- the lease on a side, `right` being true on the right
@@ -21,16 +23,16 @@ lease_on true s = s.right_gate
 lease_on false s = s.left_gate
 
 -- of two, the one on that side
-abbrev pub pick : Bool → ℕ → ℕ → ℕ
+abbrev pub pick : Bool → Id → Id → Id
 pick true l r = r
 pick false l r = l
 
 -- the neighbour that a gate names on that side
-abbrev pub end_in : Bool → Gate → ℕ
+abbrev pub end_in : Bool → Gate → Id
 end_in right g = pick right g.left g.right
 
 -- the link of a ready node on that side
-abbrev pub IsLinkOf : Bool → Phase → ℕ → Type 0
+abbrev pub IsLinkOf : Bool → Phase → Id → Type 0
 IsLinkOf right (Ready a l r) y = y ≡ pick right l r
 IsLinkOf right (Waiting a) y = ⊥
 IsLinkOf right (Asking a n) y = ⊥
@@ -47,7 +49,7 @@ pub record LeasesFit (s : State) : Type 0 where
   pub each : (right : Bool) (lease : Lease) → lease_on right s ≡ Some lease → Fits s right lease
 
 -- so only a ready node has one
-pub gate_ready : (right : Bool) (p : Phase) (y : ℕ) → IsLinkOf right p y → is_ready p ≡ true
+pub gate_ready : (right : Bool) (p : Phase) (y : Id) → IsLinkOf right p y → is_ready p ≡ true
 gate_ready right (Ready a l r) y h = refl
 gate_ready right (Waiting a) y h = absurd h
 gate_ready right (Asking a n) y h = absurd h
@@ -114,10 +116,11 @@ without_fits test s h = record {
 }
 
 -- Confirm: the joiners of the gates that go become links
-link_after-kept : (from a : ℕ) (o : Option Lease) (lease : Lease) (y : ℕ) → o ≡ Some lease → is_of from a lease.gate ≡ false → link_after from a (bare o) y ≡ y
+link_after-kept : (from : Id) (a : Attempt) (o : Option Lease) (lease : Lease) (y : Id) → o ≡ Some lease → is_of from a lease.gate ≡ false →
+    link_after from a (bare o) y ≡ y
 link_after-kept from a o lease y e f = rw e (cond-false (is_of from a lease.gate) from y f)
 
-confirmed_fits : (s t : State) (from a b x y : ℕ) → s.phase ≡ Ready b x y → t.me ≡ s.me →
+confirmed_fits : (s t : State) (from : Id) (a b : Attempt) (x y : Id) → s.phase ≡ Ready b x y → t.me ≡ s.me →
     t.phase ≡ Ready b (link_after from a (bare s.left_gate) x) (link_after from a (bare s.right_gate) y) →
     ((right : Bool) → lease_on right t ≡ unless_lease (is_of from a) (lease_on right s)) → LeasesFit s → LeasesFit t
 confirmed_fits s t from a b x y e m p gates h = record {
@@ -125,7 +128,8 @@ confirmed_fits s t from a b x y e m p gates h = record {
       let was = unless_some (is_of from a) (lease_on right s) lease (sym (gates right) ∙ at) in
       let f = h.each right lease was.0 in record {
         own = f.own ∙ sym m;
-        link = subst (λ q. IsLinkOf right q (end_in right lease.gate)) (sym p) (subst (λ q. IsLinkOf right q (end_in right lease.gate)) e f.link ∙ sym (links right lease was.0 was.1));
+        link = subst (λ q. IsLinkOf right q (end_in right lease.gate)) (sym p)
+            (subst (λ q. IsLinkOf right q (end_in right lease.gate)) e f.link ∙ sym (links right lease was.0 was.1));
         twin = λ k. gates (not right) ∙ unless_kept (is_of from a) (lease_on (not right) s) lease (f.twin (k ∙ m)) was.1;
       };
 } where
@@ -136,10 +140,25 @@ confirmed_fits s t from a b x y e m p gates h = record {
 
 -- ---- a new lease
 
--- what the row of a new lease knows: no gate on a side that is asked for, and the link there is the one asked for
-pub record IsFree (s : State) (right : Bool) (l r x y : ℕ) : Type 0 where
+-- what the rule of a new lease knows of the gate that is asked for: nobody stands in its way, and it fits
+pub record IsGranted (s : State) (x y : Id) (g : Gate) : Type 0 where
+  pub free : blocked_by (links_of s x y) s.me g ≡ None
+  pub fitting : fits (links_of s x y) s.me g ≡ true
+
+-- so no gate stands on a side that is asked for, and the link there is the one that the gate names
+pub record IsFree (s : State) (right : Bool) (x y : Id) (g : Gate) : Type 0 where
   pub gate : lease_on right s ≡ None
-  pub link : pick right l r ≡ pick right x y
+  pub link : end_in right g ≡ pick right x y
+
+-- the state without the joiner's older gates, and with its new lease
+abbrev pub cleared_for : State → Gate → State
+cleared_for s g = cleared s g.joiner g.attempt
+
+abbrev pub leased_to : State → Gate → Lists → State
+leased_to s g lists = with_lease (cleared_for s g) g lists
+
+abbrev pub new_lease : Gate → Lists → Lease
+new_lease g lists = record { gate = g; lists = lists }
 
 bare-none : (o : Option Lease) → bare o ≡ None → o ≡ None
 bare-none None e = refl
@@ -152,7 +171,7 @@ bare-unless test (Some g) = elim (cases_Bool (test g.gate)) [
   | inr e ↦ ap bare (cond-false (test g.gate) None (Some g) e) ∙ sym (cond-false (test g.gate) None (Some g.gate) e)
 ]
 
-or_else-none : (a b : Option ℕ) → or_else a b ≡ None → (a ≡ None) × (b ≡ None)
+or_else-none : (a b : Option Id) → or_else a b ≡ None → (a ≡ None) × (b ≡ None)
 or_else-none None b e = (refl, e)
 or_else-none (Some x) b e = cc
 
@@ -169,83 +188,102 @@ implied false b e f = cc
 pub same_number : (m n : ℕ) → m == n ≡ true → m ≡ n
 same_number m n e = (Decides-eqb m n).0 e
 
+-- what a gate that fits shows of the sides that are asked for
+pub record AsksRightly (me x y : Id) (g : Gate) : Type 0 where
+  pub some : (me == g.left) || (me == g.right) ≡ true
+  pub right : not (me == g.left) || (y == g.right) ≡ true
+  pub left : not (me == g.right) || (x == g.left) ≡ true
+
+pub asks_rightly : (me : Id) (k : Links) (g : Gate) → fits k me g ≡ true → AsksRightly me k.left k.right g
+asks_rightly me k g f = record { some = asked.0; right = linked.0; left = linked.1 } where
+  links : Bool
+  links = (not (me == g.left) || (k.right == g.right)) && (not (me == g.right) || (k.left == g.left))
+
+  asked : ((me == g.left) || (me == g.right) ≡ true) × (links ≡ true)
+  asked = and_parts ((me == g.left) || (me == g.right)) links
+      (and_parts (is_between g.left g.joiner g.right) (((me == g.left) || (me == g.right)) && links) f).1
+
+  linked : (not (me == g.left) || (k.right == g.right) ≡ true) × (not (me == g.right) || (k.left == g.left) ≡ true)
+  linked = and_parts (not (me == g.left) || (k.right == g.right)) (not (me == g.right) || (k.left == g.left)) asked.1
+
 -- the side that is asked for, by the neighbour that the node is to be
-pub free_side : (s : State) (right : Bool) (from a l r x y : ℕ) → blocked_by (links_of s x y) s.me from a l r ≡ None → fits (links_of s x y) s.me from l r ≡ true →
-    s.me == pick (not right) l r ≡ true → IsFree (cleared s from a) right l r x y
-free_side s right from a l r x y b f asked = by right asked where
-  none : (busy_with (s.me == l) (unless (is_older from a) (bare s.right_gate)) ≡ None) × (busy_with (s.me == r) (unless (is_older from a) (bare s.left_gate)) ≡ None)
-  none = or_else-none (busy_with (s.me == l) (unless (is_older from a) (bare s.right_gate))) (busy_with (s.me == r) (unless (is_older from a) (bare s.left_gate))) b
+pub free_side : (s : State) (x y : Id) (g : Gate) (right : Bool) → IsGranted s x y g → s.me == end_in (not right) g ≡ true →
+    IsFree (cleared_for s g) right x y g
+free_side s x y g right is asked = by right asked where
+  older : Gate → Bool
+  older = is_older g.joiner g.attempt
 
-  sides : (not (s.me == l) || (y == r) ≡ true) × (not (s.me == r) || (x == l) ≡ true)
-  sides = and_parts (not (s.me == l) || (y == r)) (not (s.me == r) || (x == l)) (and_parts ((s.me == l) || (s.me == r)) ((not (s.me == l) || (y == r)) && (not (s.me == r) || (x == l)))
-      (and_parts (is_between l from r) (((s.me == l) || (s.me == r)) && ((not (s.me == l) || (y == r)) && (not (s.me == r) || (x == l)))) f).1).1
+  none : (busy_with (s.me == g.left) (unless older (bare s.right_gate)) ≡ None) × (busy_with (s.me == g.right) (unless older (bare s.left_gate)) ≡ None)
+  none = or_else-none (busy_with (s.me == g.left) (unless older (bare s.right_gate))) (busy_with (s.me == g.right) (unless older (bare s.left_gate))) is.free
 
-  by : (right : Bool) → s.me == pick (not right) l r ≡ true → IsFree (cleared s from a) right l r x y
+  sides : AsksRightly s.me x y g
+  sides = asks_rightly s.me (links_of s x y) g is.fitting
+
+  by : (right : Bool) → s.me == end_in (not right) g ≡ true → IsFree (cleared_for s g) right x y g
   by true e = record {
-    gate = bare-none _ (bare-unless (is_older from a) s.right_gate ∙ busy_with-none (s.me == l) _ none.0 e);
-    link = sym (same_number y r (implied (s.me == l) (y == r) sides.0 e));
+    gate = bare-none _ (bare-unless older s.right_gate ∙ busy_with-none (s.me == g.left) _ none.0 e);
+    link = sym (same_number y g.right (implied (s.me == g.left) (y == g.right) sides.right e));
   }
   by false e = record {
-    gate = bare-none _ (bare-unless (is_older from a) s.left_gate ∙ busy_with-none (s.me == r) _ none.1 e);
-    link = sym (same_number x l (implied (s.me == r) (x == l) sides.1 e));
+    gate = bare-none _ (bare-unless older s.left_gate ∙ busy_with-none (s.me == g.right) _ none.1 e);
+    link = sym (same_number x g.left (implied (s.me == g.right) (x == g.left) sides.left e));
   }
 
-pub gate_on_some : (asked : Bool) (new : Lease) (old : Option Lease) (lease : Lease) → gate_on asked new old ≡ Some lease → ((asked ≡ true) × (new ≡ lease)) ⊎ ((asked ≡ false) × (old ≡ Some lease))
+pub gate_on_some : (asked : Bool) (new : Lease) (old : Option Lease) (lease : Lease) → gate_on asked new old ≡ Some lease →
+    ((asked ≡ true) × (new ≡ lease)) ⊎ ((asked ≡ false) × (old ≡ Some lease))
 gate_on_some true new old lease e = let same : new ≡ lease = cc in inl (refl, same)
 gate_on_some false new old lease e = inr (refl, e)
 
-pub lease_on-new : (c : State) (from a l r : ℕ) (lists : Lists) (right : Bool) →
-    lease_on right (with_lease c from a l r lists) ≡ gate_on (c.me == pick (not right) l r) (lease_of from a l r lists) (lease_on right c)
-lease_on-new c from a l r lists true = refl
-lease_on-new c from a l r lists false = refl
+pub lease_on-new : (c : State) (g : Gate) (lists : Lists) (right : Bool) →
+    lease_on right (with_lease c g lists) ≡ gate_on (c.me == end_in (not right) g) (new_lease g lists) (lease_on right c)
+lease_on-new c g lists true = refl
+lease_on-new c g lists false = refl
 
 -- it takes no other's place
 stays_beside : (asked : Bool) (new lease : Lease) (old : Option Lease) → (asked ≡ true → old ≡ None) → old ≡ Some lease → gate_on asked new old ≡ Some lease
 stays_beside true new lease old free e = let none : old ≡ None = free refl in cc
 stays_beside false new lease old free e = e
 
-pub new_keeps : (s : State) (from a l r x y : ℕ) (lists : Lists) (right : Bool) (lease : Lease) → blocked_by (links_of s x y) s.me from a l r ≡ None → fits (links_of s x y) s.me from l r ≡ true →
-    lease_on right (cleared s from a) ≡ Some lease → lease_on right (with_lease (cleared s from a) from a l r lists) ≡ Some lease
-new_keeps s from a l r x y lists right lease b f e =
-    lease_on-new (cleared s from a) from a l r lists right
-    ∙ stays_beside (s.me == pick (not right) l r) (lease_of from a l r lists) lease (lease_on right (cleared s from a)) (λ asked. (free_side s right from a l r x y b f asked).gate) e
+pub new_keeps : (s : State) (x y : Id) (g : Gate) (lists : Lists) (right : Bool) (lease : Lease) → IsGranted s x y g →
+    lease_on right (cleared_for s g) ≡ Some lease → lease_on right (leased_to s g lists) ≡ Some lease
+new_keeps s x y g lists right lease is e =
+    lease_on-new (cleared_for s g) g lists right
+    ∙ stays_beside (s.me == end_in (not right) g) (new_lease g lists) lease (lease_on right (cleared_for s g))
+    (λ asked. (free_side s x y g right is asked).gate) e
 
 -- and stands on each side that is asked for
-pub new_stands : (s : State) (from a l r : ℕ) (lists : Lists) (right : Bool) → s.me ≡ pick (not right) l r →
-    lease_on right (with_lease (cleared s from a) from a l r lists) ≡ Some (lease_of from a l r lists)
-new_stands s from a l r lists right e =
-    lease_on-new (cleared s from a) from a l r lists right ∙ ap (λ asked. gate_on asked (lease_of from a l r lists) (lease_on right (cleared s from a))) ((Decides-eqb s.me (pick (not right) l r)).1 e)
+pub new_stands : (s : State) (g : Gate) (lists : Lists) (right : Bool) → s.me ≡ end_in (not right) g →
+    lease_on right (leased_to s g lists) ≡ Some (new_lease g lists)
+new_stands s g lists right e =
+    lease_on-new (cleared_for s g) g lists right
+    ∙ ap (λ asked. gate_on asked (new_lease g lists) (lease_on right (cleared_for s g))) ((Decides-eqb s.me (end_in (not right) g)).1 e)
 
 -- where it is on the other side too
-new_twin : (s : State) (from a l r : ℕ) (lists : Lists) (right : Bool) → pick right l r ≡ s.me →
-    lease_on (not right) (with_lease (cleared s from a) from a l r lists) ≡ Some (lease_of from a l r lists)
-new_twin s from a l r lists true e = new_stands s from a l r lists false (sym e)
-new_twin s from a l r lists false e = new_stands s from a l r lists true (sym e)
+new_twin : (s : State) (g : Gate) (lists : Lists) (right : Bool) → end_in right g ≡ s.me → lease_on (not right) (leased_to s g lists) ≡ Some (new_lease g lists)
+new_twin s g lists true e = new_stands s g lists false (sym e)
+new_twin s g lists false e = new_stands s g lists true (sym e)
 
-new_fits : (s t : State) (from a l r b x y : ℕ) (lists : Lists) → s.phase ≡ Ready b x y → blocked_by (links_of s x y) s.me from a l r ≡ None → fits (links_of s x y) s.me from l r ≡ true →
-    SameSeat (with_lease (cleared s from a) from a l r lists) t → LeasesFit s → LeasesFit t
-new_fits s t from a l r b x y lists e free f same h = same_fits (with_lease c from a l r lists) t same (record {
+new_fits : (s : State) (b : Attempt) (x y : Id) (g : Gate) (lists : Lists) → s.phase ≡ Ready b x y → IsGranted s x y g → LeasesFit s →
+    LeasesFit (leased_to s g lists)
+new_fits s b x y g lists e is h = record {
   each = λ right lease at.
-      elim (gate_on_some (s.me == pick (not right) l r) new (lease_on right c) lease (sym (lease_on-new c from a l r lists right) ∙ at)) [
-        | inl (asked, is) ↦ subst (Fits (with_lease c from a l r lists) right) is (record {
-          own = sym (same_number s.me (pick (not right) l r) asked);
-          link = subst (λ p. IsLinkOf right p (pick right l r)) (sym e) (free_side s right from a l r x y free f asked).link;
-          twin = λ m. new_twin s from a l r lists right m;
+      elim (gate_on_some (s.me == end_in (not right) g) (new_lease g lists) (lease_on right c) lease (sym (lease_on-new c g lists right) ∙ at)) [
+        | inl (asked, same) ↦ subst (Fits (leased_to s g lists) right) same (record {
+          own = sym (same_number s.me (end_in (not right) g) asked);
+          link = subst (λ p. IsLinkOf right p (end_in right g)) (sym e) (free_side s x y g right is asked).link;
+          twin = λ m. new_twin s g lists right m;
         })
-        | inr (unasked, was) ↦ let k = (without_fits (is_older from a) s h).each right lease was in record {
+        | inr (unasked, was) ↦ let k = (without_fits (is_older g.joiner g.attempt) s h).each right lease was in record {
           own = k.own;
           link = k.link;
-          twin = λ m. new_keeps s from a l r x y lists (not right) lease free f (k.twin m);
+          twin = λ m. new_keeps s x y g lists (not right) lease is (k.twin m);
         }
       ];
-}) where
+} where
   c : State
-  c = cleared s from a
+  c = cleared_for s g
 
-  new : Lease
-  new = lease_of from a l r lists
-
--- ---- every row
+-- ---- every rule
 
 still : (s : State) (right : Bool) → lease_on right s ≡ lease_on right s
 still s right = refl
@@ -257,38 +295,42 @@ pub lease_on-but : (s t : State) → t.left_gate ≡ s.left_gate → t.right_gat
 lease_on-but s t e f true = f
 lease_on-but s t e f false = e
 
-pub lease_on-confirmed : (s : State) (from a b x y : ℕ) (right : Bool) → lease_on right (confirmed s from a b x y) ≡ unless_lease (is_of from a) (lease_on right s)
+pub lease_on-confirmed : (s : State) (from : Id) (a b : Attempt) (x y : Id) (right : Bool) →
+    lease_on right (confirmed s from a b x y) ≡ unless_lease (is_of from a) (lease_on right s)
 lease_on-confirmed s from a b x y true = refl
 lease_on-confirmed s from a b x y false = refl
 
 pub seat_fits : (s : State) (i : Input) (o : Outcome) → Seat s i o → LeasesFit s → LeasesFit o.state
-seat_fits _ _ _ (row.serves s i o e f g q) h = same_fits s o.state e h
-seat_fits _ _ _ (row.begins s n via a e f) h = none_fits s _ (is_unready s _ e refl) (lease_on-but s _ refl refl) h
-seat_fits _ _ _ (row.stops_asking s n a m e) h = none_fits s _ (is_unready s _ e refl) (lease_on-but s _ refl refl) h
-seat_fits _ _ _ (row.stops_probing s n a m probed e) h = none_fits s _ (is_unready s _ e refl) (lease_on-but s _ refl refl) h
-seat_fits _ _ _ (row.stops_leasing s n a m l r fl fr e) h = none_fits s _ (is_unready s _ e refl) (lease_on-but s _ refl refl) h
-seat_fits _ _ _ (row.refused s from a m w e) h = none_fits s _ (is_unready s _ e refl) (lease_on-but s _ refl refl) h
-seat_fits _ _ _ (row.probes s from a m heard known y ys e f g) h = none_fits s _ (is_unready s _ e refl) (lease_on-but s _ refl refl) h
-seat_fits _ _ _ (row.probes_on s from a m heard known old probed new e f g k) h = none_fits s _ (is_unready s _ e refl) (lease_on-but s _ refl refl) h
-seat_fits _ _ _ (row.leases s from a m heard known old e f) h = none_fits s _ (is_unready s _ e refl) (lease_on-but s _ refl refl) h
-seat_fits _ _ _ (row.denied s from a m l r fl fr w e) h = none_fits s _ (is_unready s _ e refl) (lease_on-but s _ refl refl) h
-seat_fits _ _ _ (row.grant_kept s from a m l r fl fr manifest tombs e w) h = none_fits s _ (is_unready s _ e refl) (lease_on-but s _ refl refl) h
-seat_fits _ _ _ (row.grant_readies s t from a m l r fl fr left right manifest tombs e f g k i) h =
+seat_fits _ _ _ (rule.serves s i o e f g q) h = same_fits s o.state e h
+seat_fits _ _ _ (rule.begins s n via a e f) h = none_fits s _ (is_unready s _ e refl) (lease_on-but s _ refl refl) h
+seat_fits _ _ _ (rule.stops_asking s n a m e) h = none_fits s _ (is_unready s _ e refl) (lease_on-but s _ refl refl) h
+seat_fits _ _ _ (rule.stops_probing s n a m probed e) h = none_fits s _ (is_unready s _ e refl) (lease_on-but s _ refl refl) h
+seat_fits _ _ _ (rule.stops_leasing s n a m l r fl fr e) h = none_fits s _ (is_unready s _ e refl) (lease_on-but s _ refl refl) h
+seat_fits _ _ _ (rule.refused s from a m w e) h = none_fits s _ (is_unready s _ e refl) (lease_on-but s _ refl refl) h
+seat_fits _ _ _ (rule.probes s from a m heard known y ys e f g) h = none_fits s _ (is_unready s _ e refl) (lease_on-but s _ refl refl) h
+seat_fits _ _ _ (rule.probes_on s from a m heard known old probed new e f g k) h = none_fits s _ (is_unready s _ e refl) (lease_on-but s _ refl refl) h
+seat_fits _ _ _ (rule.leases s from a m heard known old e f) h = none_fits s _ (is_unready s _ e refl) (lease_on-but s _ refl refl) h
+seat_fits _ _ _ (rule.denied s from a m l r fl fr w e) h = none_fits s _ (is_unready s _ e refl) (lease_on-but s _ refl refl) h
+seat_fits _ _ _ (rule.grant_kept s from a m l r fl fr manifest tombs e w) h = none_fits s _ (is_unready s _ e refl) (lease_on-but s _ refl refl) h
+seat_fits _ _ _ (rule.grant_readies s t from a m l r fl fr left right manifest tombs e f g k i) h =
     none_fits s _ (is_unready s _ e refl) (lease_on-but s _ (ap (λ (u : State). u.left_gate) f) (ap (λ (u : State). u.right_gate) f)) h
-seat_fits _ _ _ (row.file_readies s from a m l r left right file bytes e f g k) h = none_fits s _ (is_unready s _ e refl) (lease_on-but s _ refl refl) h
-seat_fits _ _ _ (row.lease_busy s from a l r b x y j e f) h = without_fits (is_older from a) s h
-seat_fits _ _ _ (row.lease_moved s from a l r b x y e) h = without_fits (is_older from a) s h
-seat_fits _ _ _ (row.lease_new s from a l r b x y e f g) h =
-    new_fits s _ from a l r b x y (new_lists (cleared s from a) x y from a l r) e f g (record { me = refl; phase = refl; left_gate = refl; right_gate = refl; known = refl }) h
-seat_fits _ _ _ (row.released s from a) h = without_fits (is_of from a) s h
-seat_fits _ _ _ (row.confirms s from a b x y e f) h = confirmed_fits s _ from a b x y e refl refl (lease_on-confirmed s from a b x y) h
-seat_fits _ _ _ (row.announced s from) h = known_fits s _ refl refl (lease_on-but s _ refl refl) h
+seat_fits _ _ _ (rule.file_readies s from a m l r left right file bytes e f g k) h = none_fits s _ (is_unready s _ e refl) (lease_on-but s _ refl refl) h
+seat_fits _ _ _ (rule.lease_busy s from a l r b x y j e f) h = without_fits (is_older from a) s h
+seat_fits _ _ _ (rule.lease_moved s from a l r b x y e) h = without_fits (is_older from a) s h
+seat_fits _ _ _ (rule.lease_new s from a l r b x y e f g) h =
+    let asked = asked_for from a l r in
+    let lists = new_lists (cleared s from a) x y asked in
+    same_fits (leased_to s asked lists) _ (record { me = refl; phase = refl; left_gate = refl; right_gate = refl; known = refl })
+    (new_fits s b x y asked lists e (record { free = f; fitting = g }) h)
+seat_fits _ _ _ (rule.released s from a) h = without_fits (is_of from a) s h
+seat_fits _ _ _ (rule.confirms s from a b x y e f) h = confirmed_fits s _ from a b x y e refl refl (lease_on-confirmed s from a b x y) h
+seat_fits _ _ _ (rule.announced s from) h = known_fits s _ refl refl (lease_on-but s _ refl refl) h
 seat_fits s _ _ m h = known_fits s _ refl refl (lease_on-but s _ refl refl) h
 
 -- ---- what takes a lease away
 
 -- a message from there takes no lease with this gate away
-abbrev pub SparedBy : Gate → ℕ → Message → Type 0
+abbrev pub SparedBy : Gate → Id → Message → Type 0
 SparedBy g from (Release a) = is_of from a g ≡ false
 SparedBy g from (Confirm a) = is_of from a g ≡ false
 SparedBy g from (LeaseRequest a l r) = is_older from a g ≡ false
@@ -317,32 +359,37 @@ Spares g (Comes from m) = SparedBy g from m
 Spares g (Command n c) = Unit {0}
 Spares g Noise = Unit {0}
 
-moved_lease : (s t : State) (right : Bool) (lease : Lease) → lease_on right s ≡ Some lease → t.left_gate ≡ s.left_gate → t.right_gate ≡ s.right_gate → lease_on right t ≡ Some lease
+moved_lease : (s t : State) (right : Bool) (lease : Lease) → lease_on right s ≡ Some lease → t.left_gate ≡ s.left_gate → t.right_gate ≡ s.right_gate →
+    lease_on right t ≡ Some lease
 moved_lease s t right lease at e f = lease_on-but s t e f right ∙ at
 
-without_lease : (test : Gate → Bool) (s : State) (right : Bool) (lease : Lease) → lease_on right s ≡ Some lease → test lease.gate ≡ false → lease_on right (without_gates test s) ≡ Some lease
+without_lease : (test : Gate → Bool) (s : State) (right : Bool) (lease : Lease) → lease_on right s ≡ Some lease → test lease.gate ≡ false →
+    lease_on right (without_gates test s) ≡ Some lease
 without_lease test s right lease at f = lease_on-without test s right ∙ unless_kept test (lease_on right s) lease at f
 
 -- a lease lasts in each step that spares it
-pub seat_lasts : (s : State) (i : Input) (o : Outcome) → Seat s i o → (right : Bool) (lease : Lease) → lease_on right s ≡ Some lease → Spares lease.gate i → lease_on right o.state ≡ Some lease
-seat_lasts _ _ _ (row.serves s i o e f g q) right lease at h = moved_lease s o.state right lease at e.left_gate e.right_gate
-seat_lasts _ _ _ (row.grant_readies s t from a m l r fl fr left' right' manifest tombs e f g k i) right lease at h =
+pub seat_lasts : (s : State) (i : Input) (o : Outcome) → Seat s i o → (right : Bool) (lease : Lease) → lease_on right s ≡ Some lease → Spares lease.gate i →
+    lease_on right o.state ≡ Some lease
+seat_lasts _ _ _ (rule.serves s i o e f g q) right lease at h = moved_lease s o.state right lease at e.left_gate e.right_gate
+seat_lasts _ _ _ (rule.grant_readies s t from a m l r fl fr left' right' manifest tombs e f g k i) right lease at h =
     moved_lease s _ right lease at (ap (λ (u : State). u.left_gate) f) (ap (λ (u : State). u.right_gate) f)
-seat_lasts _ _ _ (row.lease_busy s from a l r b x y j e f) right lease at h = without_lease (is_older from a) s right lease at h
-seat_lasts _ _ _ (row.lease_moved s from a l r b x y e) right lease at h = without_lease (is_older from a) s right lease at h
-seat_lasts _ _ _ (row.lease_new s from a l r b x y e f g) right lease at h =
-    moved_lease (with_lease (cleared s from a) from a l r (new_lists (cleared s from a) x y from a l r)) _ right lease
-    (new_keeps s from a l r x y (new_lists (cleared s from a) x y from a l r) right lease f g (without_lease (is_older from a) s right lease at h)) refl refl
-seat_lasts _ _ _ (row.released s from a) right lease at h = without_lease (is_of from a) s right lease at h
-seat_lasts _ _ _ (row.confirms s from a b x y e f) right lease at h =
+seat_lasts _ _ _ (rule.lease_busy s from a l r b x y j e f) right lease at h = without_lease (is_older from a) s right lease at h
+seat_lasts _ _ _ (rule.lease_moved s from a l r b x y e) right lease at h = without_lease (is_older from a) s right lease at h
+seat_lasts _ _ _ (rule.lease_new s from a l r b x y e f g) right lease at h =
+    let asked = asked_for from a l r in
+    let lists = new_lists (cleared s from a) x y asked in
+    moved_lease (leased_to s asked lists) _ right lease
+    (new_keeps s x y asked lists right lease (record { free = f; fitting = g }) (without_lease (is_older from a) s right lease at h)) refl refl
+seat_lasts _ _ _ (rule.released s from a) right lease at h = without_lease (is_of from a) s right lease at h
+seat_lasts _ _ _ (rule.confirms s from a b x y e f) right lease at h =
     lease_on-confirmed s from a b x y right ∙ unless_kept (is_of from a) (lease_on right s) lease at h
 seat_lasts s _ _ m right lease at h = moved_lease s _ right lease at refl refl
 
 -- ---- whose leases there are
 
 -- what holds of the gate that an input asks for
-abbrev pub GatesBy : (Gate → Type 0) → ℕ → Message → Type 0
-GatesBy P from (LeaseRequest a l r) = P (record { joiner = from; attempt = a; left = l; right = r })
+abbrev pub GatesBy : (Gate → Type 0) → Id → Message → Type 0
+GatesBy P from (LeaseRequest a l r) = P (asked_for from a l r)
 GatesBy P from (Release a) = Unit {0}
 GatesBy P from (Confirm a) = Unit {0}
 GatesBy P from (Lookup origin number key hops) = Unit {0}
@@ -377,26 +424,31 @@ moved_gates : (P : Gate → Type 0) (s t : State) → t.left_gate ≡ s.left_gat
 moved_gates P s t e f h = record { each = λ right lease at. h.each right lease (sym (lease_on-but s t e f right) ∙ at) }
 
 without_all : (P : Gate → Type 0) (test : Gate → Bool) (s : State) → AllGates P s → AllGates P (without_gates test s)
-without_all P test s h = record { each = λ right lease at. h.each right lease (unless_some test (lease_on right s) lease (sym (lease_on-without test s right) ∙ at)).0 }
+without_all P test s h = record {
+  each = λ right lease at. h.each right lease
+      (unless_some test (lease_on right s) lease (sym (lease_on-without test s right) ∙ at)).0;
+}
 
-new_all : (P : Gate → Type 0) (c : State) (from a l r : ℕ) (lists : Lists) → P (record { joiner = from; attempt = a; left = l; right = r }) → AllGates P c → AllGates P (with_lease c from a l r lists)
-new_all P c from a l r lists p h = record {
-  each = λ right lease at. elim (gate_on_some (c.me == pick (not right) l r) (lease_of from a l r lists) (lease_on right c) lease (sym (lease_on-new c from a l r lists right) ∙ at)) [
-    | inl (asked, is) ↦ subst (λ (g : Lease). P g.gate) is p
-    | inr (unasked, was) ↦ h.each right lease was
-  ];
+new_all : (P : Gate → Type 0) (c : State) (g : Gate) (lists : Lists) → P g → AllGates P c → AllGates P (with_lease c g lists)
+new_all P c g lists p h = record {
+  each = λ right lease at. elim (gate_on_some (c.me == end_in (not right) g) (new_lease g lists) (lease_on right c) lease
+      (sym (lease_on-new c g lists right) ∙ at)) [
+        | inl (asked, is) ↦ subst (λ (k : Lease). P k.gate) is p
+        | inr (unasked, was) ↦ h.each right lease was
+      ];
 }
 
 -- what holds of each gate holds of each after a step, if it holds of what the input asks for
 pub seat_gates : (P : Gate → Type 0) (s : State) (i : Input) (o : Outcome) → Seat s i o → Asks P i → AllGates P s → AllGates P o.state
-seat_gates P _ _ _ (row.serves s i o e f g q) p h = moved_gates P s o.state e.left_gate e.right_gate h
-seat_gates P _ _ _ (row.grant_readies s t from a m l r fl fr left right manifest tombs e f g k i) p h =
+seat_gates P _ _ _ (rule.serves s i o e f g q) p h = moved_gates P s o.state e.left_gate e.right_gate h
+seat_gates P _ _ _ (rule.grant_readies s t from a m l r fl fr left right manifest tombs e f g k i) p h =
     moved_gates P s _ (ap (λ (u : State). u.left_gate) f) (ap (λ (u : State). u.right_gate) f) h
-seat_gates P _ _ _ (row.lease_busy s from a l r b x y j e f) p h = without_all P (is_older from a) s h
-seat_gates P _ _ _ (row.lease_moved s from a l r b x y e) p h = without_all P (is_older from a) s h
-seat_gates P _ _ _ (row.lease_new s from a l r b x y e f g) p h =
-    moved_gates P (with_lease (cleared s from a) from a l r (new_lists (cleared s from a) x y from a l r)) _ refl refl
-    (new_all P (cleared s from a) from a l r (new_lists (cleared s from a) x y from a l r) p (without_all P (is_older from a) s h))
-seat_gates P _ _ _ (row.released s from a) p h = without_all P (is_of from a) s h
-seat_gates P _ _ _ (row.confirms s from a b x y e f) p h = moved_gates P (without_gates (is_of from a) s) _ refl refl (without_all P (is_of from a) s h)
+seat_gates P _ _ _ (rule.lease_busy s from a l r b x y j e f) p h = without_all P (is_older from a) s h
+seat_gates P _ _ _ (rule.lease_moved s from a l r b x y e) p h = without_all P (is_older from a) s h
+seat_gates P _ _ _ (rule.lease_new s from a l r b x y e f g) p h =
+    let asked = asked_for from a l r in
+    let lists = new_lists (cleared s from a) x y asked in
+    moved_gates P (leased_to s asked lists) _ refl refl (new_all P (cleared s from a) asked lists p (without_all P (is_older from a) s h))
+seat_gates P _ _ _ (rule.released s from a) p h = without_all P (is_of from a) s h
+seat_gates P _ _ _ (rule.confirms s from a b x y e f) p h = moved_gates P (without_gates (is_of from a) s) _ refl refl (without_all P (is_of from a) s h)
 seat_gates P s _ _ m p h = moved_gates P s _ refl refl h

@@ -1,10 +1,3 @@
-pub mod Always
-pub mod Phases
-pub mod Told
-pub mod Learnt
-pub mod Knows
-pub mod Linked
-pub mod Messages
 pub mod Leases
 pub mod Grants
 pub mod Gates
@@ -12,7 +5,6 @@ pub mod Sides
 pub mod Ring
 pub mod Owner
 pub mod Hops
-pub mod Requests
 pub mod Replies
 pub mod Lookups
 pub mod Closings
@@ -22,5 +14,4 @@ pub mod Notes
 pub mod Closed
 pub mod Numbers
 pub mod Once
-pub mod Receivers
-mod FirstEntry
+pub mod FirstEntry

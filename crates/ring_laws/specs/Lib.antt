@@ -1,4 +1,2 @@
-pub mod Setting
 pub mod Closings
 pub mod Hops
-pub mod Receivers

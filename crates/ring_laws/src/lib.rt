@@ -2,11 +2,11 @@
 #![tactic(auto)]
 
 ghost use Rattle.overlay_rules.specs.Laws.{OneCovers, ClosestCovers, HopsGoNearer};
-ghost use Rattle.overlay_rules.specs.Record.{IsRecord};
+ghost use Rattle.overlay_rules.specs.Record.{IsSetting, Legal};
 ghost use Rattle.overlay_rules.specs.Rightly.{LookupsAreRight, ClosedOnce};
 ghost use Rattle.ring_laws.specs.Closings.{ClosingsAreRight};
 ghost use Rattle.ring_laws.specs.Hops.{HopsAreFew};
-ghost use Rattle.ring_laws.specs.Setting.{setting};
+ghost use Rattle.step_facts.specs.Setting.{setting};
 
 use overlay_rules::Entries;
 use ring_math::Id;
@@ -19,7 +19,8 @@ use ring_math::Id;
 /// closest to its key, with fewer hops than there are ready nodes. Every answer to a lookup and every closing of a command is
 /// right, and no command is closed twice.
 pub fn ring_law(nodes: &[Id], founder: Id, entries: &Entries)
-    requires { IsRecord (setting nodes.now founder) entries.now }
+    requires setting { IsSetting (setting nodes.now founder) }
+    requires legal { Legal (setting nodes.now founder) entries.now }
     ensures one_covers { OneCovers (setting nodes.now founder) entries.now }
     ensures closest_covers { ClosestCovers (setting nodes.now founder) entries.now }
     ensures hops_go_nearer { HopsGoNearer (setting nodes.now founder) entries.now }
@@ -27,7 +28,9 @@ pub fn ring_law(nodes: &[Id], founder: Id, entries: &Entries)
     ensures hops_are_few { HopsAreFew (setting nodes.now founder) entries.now }
     ensures closings_are_right { ClosingsAreRight (setting nodes.now founder) entries.now }
     ensures closed_once { ClosedOnce entries.now }
-{}
+{
+    entries.said_law();
+}
 
 #[cfg(test)]
 mod tests;

@@ -17,7 +17,8 @@ count_by-cons p x xs = sum_by-cons (λ z. cond (p z) 1 0) x xs
 -- a test that passes more counts no less
 pub count_by-weaker : (p q : ℕ → Bool) (xs : List ℕ) → ((z : ℕ) → p z ≡ true → q z ≡ true) → count_by p xs ≤ count_by q xs
 count_by-weaker p q [] h = omega arith
-count_by-weaker p q (x ∷ xs) h = rw (count_by-cons p x xs, count_by-cons q x xs) (count_step (p x) (q x) (count_by p xs) (count_by q xs) (h x) (count_by-weaker p q xs h))
+count_by-weaker p q (x ∷ xs) h = rw (count_by-cons p x xs, count_by-cons q x xs)
+    (count_step (p x) (q x) (count_by p xs) (count_by q xs) (h x) (count_by-weaker p q xs h))
 
 one_step : (a b : Bool) (m n : ℕ) → (a ≡ true → b ≡ true) → m < n → cond a 1 0 + m < cond b 1 0 + n
 one_step a b m n h le = grind (arith, cases_Bool a, cases_Bool b)
@@ -40,7 +41,8 @@ pub farther-more : (ready : ℕ → Bool) (nodes : List ℕ) (x y key : ℕ) →
     count_by (λ z. ready z && is_nearer x z key) nodes < count_by (λ z. ready z && is_nearer y z key) nodes
 farther-more ready nodes x y key c rx n =
     count_by-more (λ z. ready z && is_nearer x z key) (λ z. ready z && is_nearer y z key) nodes x c
-    (λ z h. grind (arith, nat_tests, h, cases_Bool (ready z), is_nearer-trans y x z key n)) (grind (arith, nat_tests, is_nearer-same x key)) (grind (arith, nat_tests, rx, n))
+    (λ z h. grind (arith, nat_tests, h, cases_Bool (ready z), is_nearer-trans y x z key n)) (grind (arith, nat_tests, is_nearer-same x key))
+    (grind (arith, nat_tests, rx, n))
 
 -- so the nodes left behind are fewer than the ready nodes
 pub farther-fewer : (ready : ℕ → Bool) (nodes : List ℕ) (x key : ℕ) → Contains nodes x → ready x ≡ true →

@@ -56,7 +56,11 @@ module _ (P Q : ℕ → Type 0) (key : ℕ) where
   no_nearer x y z h n = is_nearer-turned y z key (is_nearer-weaker y x z key h n)
 
   closest_no_nearer : (R : ℕ → Type 0) (y z : ℕ) → IsClosest R key y → R z → is_nearer z y key ≡ false
-  closest_no_nearer R y z h r = elim (cases_eq z y) [ inl e ↦ subst (λ w. is_nearer w y key ≡ false) (sym e) (is_nearer-same y key) | inr ne ↦ h.nearest z r ne ]
+  closest_no_nearer R y z h r = elim (cases_eq z y) [
+    | inl e ↦ subst (λ w. is_nearer w y key ≡ false) (sym e)
+        (is_nearer-same y key)
+    | inr ne ↦ h.nearest z r ne
+  ]
 
   -- z is no nearer than y, which is no nearer than x
   no_nearer_too : (x y z : ℕ) → is_nearer y x key ≡ false → is_nearer z y key ≡ false → is_nearer z x key ≡ false

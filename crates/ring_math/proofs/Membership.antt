@@ -1,9 +1,11 @@
 -- Membership in a list of numbers, by its first element and under a filter; std's `Contains` is by index.
-use Rattle.std.proofs.Common.{◌≡◌, ℕ, Bool, true, false, ◌⊎◌, List, [], ◌∷◌, zero, suc, sym, refl, subst, arith, inl, inr}
+use Rattle.std.proofs.Common.{◌≡◌, ◌<◌, ◌^◌, ℕ, Bool, true, false, ◌⊎◌, List, [], ◌∷◌, ◌++◌, zero, suc, sym, refl, subst, arith, inl, inr}
 use Rattle.std.specs.Prelude.{◌==◌}
 use Rattle.std.specs.List.{Contains, filter}
 use Rattle.std.proofs.lemmas.Bool.{cond_both, or_cases}
 use Rattle.std.proofs.lemmas.Bool.Decides.{Decides-eqb}
+use Rattle.std.proofs.lemmas.List.Elements.{Contains-append_cases}
+use Rattle.ring_math.specs.Members.{InRing}
 use Rattle.ring_math.specs.Sides.{is_in}
 
 pub Contains-here : (x : ℕ) (xs : List ℕ) → Contains (x ∷ xs) x
@@ -24,14 +26,22 @@ pub Contains-filter : (t : ℕ → Bool) (xs : List ℕ) (z : ℕ) → Contains 
 Contains-filter t [] z c h = absurd (Contains-none z c)
 Contains-filter t (x ∷ xs) z c h =
     cond_both (t x) (x ∷ filter t xs) (filter t xs) (λ ys. Contains ys z)
-    (λ e. elim (Contains-cases x xs z c) [ inl same ↦ rw same (Contains-here x (filter t xs)) | inr c' ↦ Contains-there x (filter t xs) z (Contains-filter t xs z c' h) ])
+    (λ e. elim (Contains-cases x xs z c) [
+      | inl same ↦ rw same (Contains-here x (filter t xs))
+      | inr c' ↦ Contains-there x (filter t xs) z
+          (Contains-filter t xs z c' h)
+    ])
     (λ e. elim (Contains-cases x xs z c) [ inl same ↦ let e' : t z ≡ false = rw same e in absurd (cc) | inr c' ↦ Contains-filter t xs z c' h ])
 
 filter_step : (t : ℕ → Bool) (x : ℕ) (xs : List ℕ) (z : ℕ) → (Contains (filter t xs) z → Contains xs z × (t z ≡ true)) →
     Contains (filter t (x ∷ xs)) z → Contains (x ∷ xs) z × (t z ≡ true)
 filter_step t x xs z rest =
     cond_both (t x) (x ∷ filter t xs) (filter t xs) (λ ys. Contains ys z → Contains (x ∷ xs) z × (t z ≡ true))
-    (λ e c. elim (Contains-cases x (filter t xs) z c) [ inl same ↦ (rw same (Contains-here x xs), rw same e) | inr c' ↦ (Contains-there x xs z (rest c').0, (rest c').1) ])
+    (λ e c. elim (Contains-cases x (filter t xs) z c) [
+      | inl same ↦ (rw same (Contains-here x xs), rw same e)
+      | inr c' ↦
+          (Contains-there x xs z (rest c').0, (rest c').1)
+    ])
     (λ e c. (Contains-there x xs z (rest c).0, (rest c).1))
 
 -- and what is kept is a member that passes
@@ -46,4 +56,12 @@ Contains-is_in (x ∷ xs) y e =
     elim (or_cases (x == y) (is_in xs y) e) [
       | inl f ↦ let same : x ≡ y = (Decides-eqb x y).0 f in subst (Contains (x ∷ xs)) same (Contains-here x xs)
       | inr f ↦ Contains-there x xs y (Contains-is_in xs y f)
+    ]
+
+-- one more identifier at the end
+pub InRing-more : (xs : List ℕ) (x : ℕ) → InRing (Contains xs) → x < 2 ^ 128 → InRing (Contains (xs ++ x ∷ []))
+InRing-more xs x range hx z c =
+    elim (Contains-append_cases xs (x ∷ []) z c) [
+      | inl d ↦ range z d
+      | inr d ↦ elim (Contains-cases x [] z d) [ inl e ↦ rw e hx | inr f ↦ absurd (Contains-none z f) ]
     ]

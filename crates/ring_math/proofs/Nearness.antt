@@ -42,6 +42,12 @@ unfolding is_nearer
 is_nearer-weaker a b c key p q = grind (arith, nat_tests)
 
 pub is_nearer-total : (a b key : ℕ) → a < 2 ^ 128 → b < 2 ^ 128 → key < 2 ^ 128 → a ≢ b → is_nearer a b key ≡ false → is_nearer b a key ≡ true
-is_nearer-total a b key ha hb hk ne p = grind (arith, nat_tests, is_nearer-rank a b key ha hb hk, is_nearer-rank b a key hb ha hk, same_from_rank key a b hk ha hb)
+is_nearer-total a b key ha hb hk ne p = grind (
+  arith,
+  nat_tests,
+  is_nearer-rank a b key ha hb hk,
+  is_nearer-rank b a key hb ha hk,
+  same_from_rank key a b hk ha hb,
+)
 
 pub ruleset order_laws = (is_nearer-same, is_nearer-trans, is_nearer-total)

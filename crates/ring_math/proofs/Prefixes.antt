@@ -110,7 +110,8 @@ leading_digits a b ha hb =
     let none : a / 16 ^ 32 ≡ b / 16 ^ 32 = omega arith in
     let found = shared_differ 32 a b none in
     let at_end = found.1 in
-    let zeros = zeros_between (bit_xor a b) found.0 (xor_lt 128 a b ha hb) (omega arith) (xor_same a b found.0 found.2.alike) (λ j e. xor_other a b j (found.2.differ j e)) in
+    let zeros = zeros_between (bit_xor a b) found.0 (xor_lt 128 a b ha hb) (omega arith) (xor_same a b found.0 found.2.alike)
+    (λ j e. xor_other a b j (found.2.differ j e)) in
     omega arith
 
 -- ---- what `shared_of` says of digits

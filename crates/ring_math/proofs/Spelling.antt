@@ -1,5 +1,6 @@
 -- Identifiers as bytes and as hexadecimal texts: what a text spells is the number of its bytes, and reading gives back what was written.
-use Rattle.std.proofs.Common.{◌≡◌, ℕ, suc, zero, ◌+◌, ◌*◌, ◌^◌, ◌%◌, ◌/◌, ◌-◌, ◌<◌, ◌≢◌, true, false, not, List, [], ◌∷◌, length, take, slice_index, Option, Some, None, Result, Ok, Err, is_some, lit<, refl, sym, ◌∙◌, ap, subst, get_or-take, length-take, arith}
+use Rattle.std.proofs.Common.{◌≡◌, ℕ, suc, zero, ◌+◌, ◌*◌, ◌^◌, ◌%◌, ◌/◌, ◌-◌, ◌<◌, ◌≢◌, true, false, not, List, [], ◌∷◌, length, take, slice_index}
+use Rattle.std.proofs.Common.{Option, Some, None, Result, Ok, Err, is_some, lit<, refl, sym, ◌∙◌, ap, subst, get_or-take, length-take, arith}
 use Rattle.std.specs.Prelude.{unwrap_or}
 use Rattle.std.specs.Int.{w128, to_be_bytes, from_be_bytes, bytes_high_first, byte_at, byte_worth, sum_through}
 use Rattle.std.specs.List.{AllPass, position_or_len}
@@ -42,7 +43,8 @@ number_from-sum (suc n) before (b ∷ rest) e =
     let f : ℕ → ℕ = λ i. byte_worth (suc n - i) (slice_index (b ∷ rest) i) in
     let g : ℕ → ℕ = λ i. byte_worth (n - i) (slice_index rest i) in
     let first = sum_through-first f n in
-    let behind = sum_through-same (λ i. f (suc i)) g n (λ i. let less : suc n - suc i ≡ n - i = omega arith in ap (λ k. byte_worth k (slice_index rest i)) less) in
+    let behind = sum_through-same (λ i. f (suc i)) g n (λ i. let less : suc n - suc i ≡ n - i = omega arith in
+    ap (λ k. byte_worth k (slice_index rest i)) less) in
     let power : 256 ^ suc (suc n) ≡ 256 ^ suc n * 256 = pow-suc 256 (suc n) in
     let whole : suc n - 0 ≡ suc n = omega arith in
     let top : f 0 ≡ b * 256 ^ suc n = ap (λ k. byte_worth k b) whole in
@@ -113,7 +115,8 @@ bad_place-none text h =
 bad_place-some : (text : List ℕ) (k : ℕ) → k < length text → is_hex_digit (slice_index text k) ≡ false → AllPass is_hex_digit (take k text) →
     bad_place text ≡ Some k
 bad_place-some text k lt bad h =
-    let front : (j : ℕ) → j < k → is_hex_digit (slice_index text j) ≡ true = λ j before. subst IsDigit (get_or-take k text j 0 before) (h j 0 (omega (arith, length-take k text))) in
+    let front : (j : ℕ) → j < k → is_hex_digit (slice_index text j) ≡ true =
+    λ j before. subst IsDigit (get_or-take k text j 0 before) (h j 0 (omega (arith, length-take k text))) in
     let at : position_or_len (λ c. not (is_hex_digit c)) text ≡ k =
     position_or_len_is (λ c. not (is_hex_digit c)) text k 0 (omega arith) (λ j before. ap not (front j before)) (λ _. ap not bad) in
     grind (arith, nat_tests, at)
@@ -167,4 +170,5 @@ id_read-text_of id h =
     let bytes : List ℕ = to_be_bytes w128 id in
     let pairs : decode_pairs 0 (text_of id) ≡ Ok bytes = decode_pairs-encode_with lower_digits IsDigits-lower_digits 0 bytes (bytes_high_first-bytes 16 id) in
     let len : length (text_of id) ≡ 32 = length-encode_with lower_digits bytes ∙ ap (λ n. 2 * n) (length-bytes_high_first 16 id) in
-    read_ok (text_of id) id len (bad_place-none (text_of id) (decode_pairs-ok 0 (text_of id) bytes pairs).0) (spelled_decoded (text_of id) bytes len pairs ∙ number_of-to_be_bytes id h)
+    read_ok (text_of id) id len (bad_place-none (text_of id) (decode_pairs-ok 0 (text_of id) bytes pairs).0)
+    (spelled_decoded (text_of id) bytes len pairs ∙ number_of-to_be_bytes id h)

@@ -1,4 +1,6 @@
+pub mod Names
 pub mod Ring
+pub mod Direction
 pub mod Members
 pub mod Nearer
 pub mod Bytewise

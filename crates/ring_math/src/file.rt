@@ -1,10 +1,10 @@
 //! Identifiers of files, and what a node keeps for one.
 
-ghost use Rattle.std.specs.Prelude.{◌≡◌};
+ghost use Rattle.std.specs.Prelude.{◌≡◌, ◌<◌, length, All};
 ghost use Rattle.ring_math.specs.Keys.{file_of, key_of};
 
 use crate::id::{Id, leading_id};
-use crate::lists::Bytes;
+use crate::lists::{Bytes, bytes_law};
 use sha1::Sha1;
 use std::marker::Model;
 
@@ -13,13 +13,25 @@ use std::marker::Model;
 pub struct FileId(pub [u8; 20]);
 
 impl Model for FileId {
-    ghost use Rattle.std.specs.Prelude.{ℕ, List};
+    ghost use Rattle.std.specs.Prelude.{◌≡◌, ℕ, List, length};
 
     ghost Value = { List ℕ };
 
     ghost view = { λ a. a.0 };
 
+    ghost invariant = { λ a. length a.0 ≡ 20 };
+
     ghost inverse = { λ n. record { 0 = n } };
+}
+
+impl FileId {
+    /// An identifier of a file is 20 bytes: a law, which does nothing. For one behind a reference a proof has it in no other way.
+    pub fn range_law(self)
+        ensures length { length self ≡ 20 }
+        ensures bytes { All (λ byte. byte < 256) self }
+    {
+        bytes_law(&self.0);
+    }
 }
 
 /// The identifier of a file (PAST): the SHA-1 of its name, one zero byte, its owner and its salt.

@@ -1,6 +1,6 @@
 //! Identifiers of nodes, and keys.
 
-ghost use Rattle.std.specs.Prelude.{◌≡◌};
+ghost use Rattle.std.specs.Prelude.{◌≡◌, ◌<◌, ◌^◌};
 ghost use Rattle.ring_math.specs.Keys.{id_of, key_of};
 
 use sha1::Sha1;
@@ -20,6 +20,17 @@ impl Model for Id {
     ghost invariant = { λ a. a.0 < 2 ^ 128 };
 
     ghost inverse = { λ n. record { 0 = n } };
+}
+
+impl Id {
+    /// An identifier is below 2^128: a law, which does nothing.
+    ///
+    /// A clause sees an identifier as a number. What a proof knows of that number's range it knows where the identifier is
+    /// given by value; of one behind a reference, as in a message, it has the range by this law and in no other way. For a
+    /// list it is [`Ids::range_law`](crate::Ids::range_law).
+    pub fn range_law(self)
+        ensures { self < 2 ^ 128 }
+    {}
 }
 
 /// The identifier of a name: the first 16 bytes of its SHA-1 (FIPS 180-4), the most significant first.

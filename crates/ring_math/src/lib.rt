@@ -3,8 +3,10 @@
 
 mod circle;
 mod digits;
+mod direction;
 mod file;
 mod id;
+mod limits;
 mod lists;
 mod memory;
 mod nearest;
@@ -12,8 +14,10 @@ mod text;
 
 pub use circle::{between, cw, dist, nearer, order_law};
 pub use digits::{digit, shared};
+pub use direction::{Direction, distance};
 pub use file::{FileId, Held, file_id, key_of};
 pub use id::{Id, id_of_name};
+pub use limits::{DIGIT_VALUES, DIGITS, LEAVES_PER_SIDE, MOST_BYTES, MOST_ENTRIES, MOST_MEMBERS};
 pub use lists::{Bytes, BytesFault, FileIds, Ids};
 pub use memory::OutOfMemory;
 pub use nearest::{improves, nearer_of};

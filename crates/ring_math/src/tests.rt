@@ -63,7 +63,7 @@ fn texts(rt: HostRuntime) {
 }
 
 #[test]
-fn ids_are_at_most_17(rt: HostRuntime) -> Result<(), Fail> {
+fn ids_are_at_most_so_many(rt: HostRuntime) -> Result<(), Fail> {
     let mut ids = Ids::with_room(rt.alloc())?;
     for i in 0..17u8 {
         assert!(rt; ids.push(at(i)));

@@ -4,18 +4,19 @@ ghost use Rattle.std.specs.Prelude.{◌≡◌, Ok, Some, IsSome};
 ghost use Rattle.ring_math.specs.Texts.{text_of, id_read, faulty_place};
 
 use crate::id::Id;
+use crate::limits::DIGITS;
 use hex::FromHexError;
 
 /// Why a text is no identifier.
 #[derive(Clone, Copy, PartialEq, Eq, Debug)]
 pub enum IdFault {
-    /// There are not 32 bytes.
+    /// There are not as many bytes as an identifier has digits.
     Length { found: usize },
-    /// Of 32 bytes, the first that is no hexadecimal digit stands here.
+    /// There are, and the first that is no hexadecimal digit stands here.
     Digit { place: usize },
 }
 
-/// The 32 hexadecimal digits of an identifier, in lower case.
+/// The hexadecimal digits of an identifier, in lower case.
 pub fn id_to_hex(id: Id) -> [u8; 32]
     ensures text { result ≡ text_of id }
     ensures back { id_read result ≡ Ok id }
@@ -26,12 +27,12 @@ pub fn id_to_hex(id: Id) -> [u8; 32]
     text
 }
 
-/// The identifier that 32 hexadecimal digits spell, in either case. `Length` comes exactly where there are not 32 bytes,
-/// and `Digit` exactly where one of 32 is no digit, with the place of the first.
+/// The identifier that hexadecimal digits spell, in either case. `Length` comes exactly where there are not [`DIGITS`] bytes,
+/// and `Digit` exactly where there are and one is no digit, with the place of the first.
 pub fn id_from_hex(text: &[u8]) -> Result<Id, IdFault>
     ensures { result ≡ id_read text.now }
 {
-    if text.len() != 32 {
+    if text.len() != DIGITS as usize {
         return Err(IdFault::Length { found: text.len() });
     }
     let mut bytes = [0; 16];

@@ -1,5 +1,6 @@
 -- The nearest of the entries that improve, one entry more at a time.
-use Rattle.std.proofs.Common.{◌≡◌, ◌≢◌, ℕ, zero, suc, ◌+◌, ◌<◌, ◌⊎◌, true, false, List, [], ◌∷◌, ◌++◌, length, take, get_or, Option, Some, refl, sym, subst, ap, ◌∙◌, arith, inl, inr}
+use Rattle.std.proofs.Common.{◌≡◌, ◌≢◌, ℕ, zero, suc, ◌+◌, ◌<◌, ◌⊎◌, true, false, List, [], ◌∷◌, ◌++◌, length, take, get_or, Option, Some, refl, sym}
+use Rattle.std.proofs.Common.{subst, ap, ◌∙◌, arith, inl, inr}
 use Rattle.std.specs.Prelude.{nat_le}
 use Rattle.std.specs.List.{Contains}
 use Rattle.std.proofs.lemmas.Bool.{cases_Bool, cases_eq, and_parts, and_from}
@@ -15,7 +16,8 @@ one_entry : (e w : Option ℕ) → Contains (e ∷ []) w → w ≡ e
 one_entry e w (zero, lt, p) = sym p
 one_entry e w (suc k, lt, p) = absurd (omega arith)
 
-entry_there : (xs : List (Option ℕ)) (i : ℕ) (e w : Option ℕ) → i < length xs → e ≡ get_or xs i e → Contains (take i xs) w ⊎ (w ≡ e) → Contains (take (i + 1) xs) w
+entry_there : (xs : List (Option ℕ)) (i : ℕ) (e w : Option ℕ) → i < length xs → e ≡ get_or xs i e → Contains (take i xs) w ⊎ (w ≡ e) →
+    Contains (take (i + 1) xs) w
 entry_there xs i e w lt read h =
     let more : take (i + 1) xs ≡ take i xs ++ e ∷ [] = take_more xs i e lt ∙ ap (λ v. take i xs ++ v ∷ []) (sym read) in
     rw more (elim h [
@@ -23,7 +25,8 @@ entry_there xs i e w lt read h =
       | inr same ↦ Contains-append_right (take i xs) (e ∷ []) w (rw same (0, omega arith, refl))
     ])
 
-entry_back : (xs : List (Option ℕ)) (i : ℕ) (e w : Option ℕ) → i < length xs → e ≡ get_or xs i e → Contains (take (i + 1) xs) w → Contains (take i xs) w ⊎ (w ≡ e)
+entry_back : (xs : List (Option ℕ)) (i : ℕ) (e w : Option ℕ) → i < length xs → e ≡ get_or xs i e → Contains (take (i + 1) xs) w →
+    Contains (take i xs) w ⊎ (w ≡ e)
 entry_back xs i e w lt read c =
     let more : take (i + 1) xs ≡ take i xs ++ e ∷ [] = take_more xs i e lt ∙ ap (λ v. take i xs ++ v ∷ []) (sym read) in
     elim (Contains-append_cases (take i xs) (e ∷ []) w (rw more at c)) [ inl d ↦ inl d | inr d ↦ inr (one_entry e w d) ]

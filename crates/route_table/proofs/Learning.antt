@@ -1,11 +1,13 @@
 -- The table after one more identifier was learnt: an entry is the first that belongs there, so it never changes.
-use Rattle.std.proofs.Common.{◌≡◌, ◌≢◌, ℕ, ◌+◌, ◌*◌, ◌<◌, Bool, true, false, ◌||◌, ◌==◌, cond, List, [], ◌∷◌, ◌++◌, length, get_or, set, find, Option, Some, None, refl, sym, ap, ◌∙◌, subst, arith, inl, inr}
+use Rattle.std.proofs.Common.{◌≡◌, ◌≢◌, ℕ, ◌+◌, ◌*◌, ◌<◌, Bool, true, false, ◌||◌, ◌==◌, cond, List, [], ◌∷◌, ◌++◌, length, get_or, set, find, Option}
+use Rattle.std.proofs.Common.{Some, None, refl, sym, ap, ◌∙◌, subst, arith, inl, inr}
 use Rattle.std.specs.Prelude.{is_none}
 use Rattle.std.specs.Bool.{OnTrue, OnFalse}
 use Rattle.std.specs.Option.{option_or}
 use Rattle.std.proofs.lemmas.Bool.{cases_Bool, cond-true, cond-false, or_left, or_from, and_parts, and_from, eqb-true, eq-eqb}
 use Rattle.std.proofs.lemmas.List.{get_or-set_same, get_or-set_other, length-set}
 use Rattle.std.proofs.lemmas.List.Folds.{find-append}
+use Rattle.ring_math.specs.declared.limits.TheConstants.{DIGITS, DIGIT_VALUES}
 use Rattle.ring_math.specs.Ring.{digit_of, shared_of}
 use Rattle.ring_math.specs.Sides.{is_in, belongs, entry_of, learn}
 use Rattle.route_table.specs.Entries.{Table, StandsFor, entry_in, with_entry}
@@ -13,7 +15,8 @@ use Rattle.route_table.specs.Entries.{Table, StandsFor, entry_in, with_entry}
 -- ---- to which entry an identifier belongs
 
 belongs_here : (me y row col : ℕ) → row ≡ shared_of me y → col ≡ digit_of y row → belongs me row col y ≡ true
-belongs_here me y row col e f = and_from (shared_of me y == row) (digit_of y row == col) (eq-eqb (shared_of me y) row (sym e)) (eq-eqb (digit_of y row) col (sym f))
+belongs_here me y row col e f = and_from (shared_of me y == row) (digit_of y row == col) (eq-eqb (shared_of me y) row (sym e))
+    (eq-eqb (digit_of y row) col (sym f))
 
 belongs_nowhere_else : (me y row col r d : ℕ) → row ≡ shared_of me y → col ≡ digit_of y row → (r ≡ row → d ≡ col → ⊥) → belongs me r d y ≡ false
 belongs_nowhere_else me y row col r d e f out =
@@ -78,7 +81,8 @@ entry-found me y known r d x f =
     ]
 
 -- one that was empty is y, where y belongs there
-entry-first : (me y : ℕ) (known : List ℕ) (r d : ℕ) → y == me ≡ false → belongs me r d y ≡ true → entry_of me known r d ≡ None → entry_of me (learn me known y) r d ≡ Some y
+entry-first : (me y : ℕ) (known : List ℕ) (r d : ℕ) → y == me ≡ false → belongs me r d y ≡ true → entry_of me known r d ≡ None →
+    entry_of me (learn me known y) r d ≡ Some y
 entry-first me y known r d other b none =
     let out = not_found (belongs me r d) known y none b in
     entry-new me y known r d (or_from (y == me) (is_in known y) other out) ∙ rw (none, b) refl
@@ -91,57 +95,63 @@ stands-me t known y st e = record {
   entry = λ r d hr hd. st.entry r d hr hd ∙ sym (entry-known t.me y known r d (or_left (y == t.me) (is_in known y) (eq-eqb y t.me e)));
 }
 
-pub stands-held : (t : Table) (known : List ℕ) (y row col x : ℕ) → StandsFor t known → row ≡ shared_of t.me y → col ≡ digit_of y row → row < 32 → col < 16 →
+pub stands-held : (t : Table) (known : List ℕ) (y row col x : ℕ) → StandsFor t known → row ≡ shared_of t.me y → col ≡ digit_of y row → row < DIGITS →
+    col < DIGIT_VALUES →
     entry_in t row col ≡ Some x → StandsFor t (learn t.me known y)
 stands-held t known y row col x st e f hr hc some = record { size = st.size; entry = entry } where
-  entry : (r d : ℕ) → r < 32 → d < 16 → entry_in t r d ≡ entry_of t.me (learn t.me known y) r d
+  entry : (r d : ℕ) → r < DIGITS → d < DIGIT_VALUES → entry_in t r d ≡ entry_of t.me (learn t.me known y) r d
   entry r d lr ld = st.entry r d lr ld ∙ sym (elim (cases_Bool (belongs t.me r d y)) [
     | inl b ↦
         let parts = and_parts (shared_of t.me y == r) (digit_of y r == d) b in
         let same_row : row ≡ r = e ∙ eqb-true (shared_of t.me y) r parts.0 in
         let same_col : col ≡ d = f ∙ ap (digit_of y) same_row ∙ eqb-true (digit_of y r) d parts.1 in
-        entry-found t.me y known r d x (sym (st.entry r d lr ld) ∙ subst (λ k. entry_in t r k ≡ Some x) same_col (subst (λ k. entry_in t k col ≡ Some x) same_row some))
+        entry-found t.me y known r d x (sym (st.entry r d lr ld)
+        ∙ subst (λ k. entry_in t r k ≡ Some x) same_col (subst (λ k. entry_in t k col ≡ Some x) same_row some))
     | inr b ↦ entry-elsewhere t.me y known r d b
   ])
 
 pub stands-filled : (t : Table) (known : List ℕ) (y row col : ℕ) → StandsFor t known → y == t.me ≡ false → row ≡ shared_of t.me y → col ≡ digit_of y row →
-    row < 32 → col < 16 → entry_in t row col ≡ None → StandsFor (with_entry t row col y) (learn t.me known y)
-stands-filled t known y row col st other e f hr hc none = record { size = length-set t.entries (16 * row + col) (Some y) ∙ st.size; entry = entry } where
-  size : length t.entries ≡ 512
-  size = st.size
+    row < DIGITS → col < DIGIT_VALUES → entry_in t row col ≡ None → StandsFor (with_entry t row col y) (learn t.me known y)
+stands-filled t known y row col st other e f hr hc none = record { size = length-set t.entries (DIGIT_VALUES * row + col) (Some y) ∙ st.size; entry = entry }
+  where
+    size : length t.entries ≡ DIGITS * DIGIT_VALUES
+    size = st.size
 
-  set_here : get_or (set t.entries (16 * row + col) (Some y)) (16 * row + col) None ≡ Some y
-  set_here = get_or-set_same t.entries (16 * row + col) (Some y) None (omega arith)
+    set_here : get_or (set t.entries (DIGIT_VALUES * row + col) (Some y)) (DIGIT_VALUES * row + col) None ≡ Some y
+    set_here = get_or-set_same t.entries (DIGIT_VALUES * row + col) (Some y) None (omega arith)
 
-  entry : (r d : ℕ) → r < 32 → d < 16 → get_or (set t.entries (16 * row + col) (Some y)) (16 * r + d) None ≡ entry_of t.me (learn t.me known y) r d
-  entry r d lr ld = elim (cases_Bool (belongs t.me r d y)) [
-    | inl b ↦
-        let parts = and_parts (shared_of t.me y == r) (digit_of y r == d) b in
-        let same_row : row ≡ r = e ∙ eqb-true (shared_of t.me y) r parts.0 in
-        let same_col : col ≡ d = f ∙ ap (digit_of y) same_row ∙ eqb-true (digit_of y r) d parts.1 in
-        let place : 16 * row + col ≡ 16 * r + d = omega arith in
-        let was : entry_in t r d ≡ None = subst (λ k. entry_in t r k ≡ None) same_col (subst (λ k. entry_in t k col ≡ None) same_row none) in
-        subst (λ k. get_or (set t.entries (16 * row + col) (Some y)) k None ≡ Some y) place set_here
-        ∙ sym (entry-first t.me y known r d other b (sym (st.entry r d lr ld) ∙ was))
-    | inr b ↦
-        let apart : 16 * r + d ≢ 16 * row + col = λ k. elsewhere r d b ld k in
-        get_or-set_other t.entries (16 * row + col) (16 * r + d) (Some y) None apart ∙ st.entry r d lr ld ∙ sym (entry-elsewhere t.me y known r d b)
-  ] where
-    elsewhere : (r d : ℕ) → belongs t.me r d y ≡ false → d < 16 → 16 * r + d ≡ 16 * row + col → ⊥
-    elsewhere r d b ld k =
-        let same_row : r ≡ row = omega arith in
-        let same_col : d ≡ col = omega arith in
-        let here : belongs t.me r d y ≡ true = belongs_here t.me y r d (same_row ∙ e) (same_col ∙ f ∙ ap (digit_of y) (sym same_row)) in cc
+    entry : (r d : ℕ) → r < DIGITS → d < DIGIT_VALUES → get_or (set t.entries (DIGIT_VALUES * row + col) (Some y)) (DIGIT_VALUES * r + d) None ≡ entry_of t.me
+        (learn t.me known y) r d
+    entry r d lr ld = elim (cases_Bool (belongs t.me r d y)) [
+      | inl b ↦
+          let parts = and_parts (shared_of t.me y == r) (digit_of y r == d) b in
+          let same_row : row ≡ r = e ∙ eqb-true (shared_of t.me y) r parts.0 in
+          let same_col : col ≡ d = f ∙ ap (digit_of y) same_row ∙ eqb-true (digit_of y r) d parts.1 in
+          let place : DIGIT_VALUES * row + col ≡ DIGIT_VALUES * r + d = omega arith in
+          let was : entry_in t r d ≡ None = subst (λ k. entry_in t r k ≡ None) same_col (subst (λ k. entry_in t k col ≡ None) same_row none) in
+          subst (λ k. get_or (set t.entries (DIGIT_VALUES * row + col) (Some y)) k None ≡ Some y) place set_here
+          ∙ sym (entry-first t.me y known r d other b (sym (st.entry r d lr ld) ∙ was))
+      | inr b ↦
+          let apart : DIGIT_VALUES * r + d ≢ DIGIT_VALUES * row + col = λ k. elsewhere r d b ld k in
+          get_or-set_other t.entries (DIGIT_VALUES * row + col) (DIGIT_VALUES * r + d) (Some y) None apart ∙ st.entry r d lr ld
+          ∙ sym (entry-elsewhere t.me y known r d b)
+    ] where
+      elsewhere : (r d : ℕ) → belongs t.me r d y ≡ false → d < DIGIT_VALUES → DIGIT_VALUES * r + d ≡ DIGIT_VALUES * row + col → ⊥
+      elsewhere r d b ld k =
+          let same_row : r ≡ row = omega arith in
+          let same_col : d ≡ col = omega arith in
+          let here : belongs t.me r d y ≡ true = belongs_here t.me y r d (same_row ∙ e) (same_col ∙ f ∙ ap (digit_of y) (sym same_row)) in cc
 
 -- the table after the entry was filled where it was empty
 pub stands-learnt : (t s : Table) (known : List ℕ) (y row col : ℕ) (b : Bool) → StandsFor t known → y == t.me ≡ false → row ≡ shared_of t.me y →
-    col ≡ digit_of y row → row < 32 → b ≡ is_none (entry_in t row col) → OnTrue b (s ≡ with_entry t row col y) →
+    col ≡ digit_of y row → row < DIGITS → b ≡ is_none (entry_in t row col) → OnTrue b (s ≡ with_entry t row col y) →
     OnFalse b (s ≡ t) → StandsFor s (learn t.me known y)
 stands-learnt t s known y row col b st other e f hr answer filled same = by b (entry_in t row col) refl answer filled same where
-  hc : col < 16
+  hc : col < DIGIT_VALUES
   hc = omega (arith, f)
 
-  by : (a : Bool) (o : Option ℕ) → entry_in t row col ≡ o → a ≡ is_none o → OnTrue a (s ≡ with_entry t row col y) → OnFalse a (s ≡ t) → StandsFor s (learn t.me known y)
+  by : (a : Bool) (o : Option ℕ) → entry_in t row col ≡ o → a ≡ is_none o → OnTrue a (s ≡ with_entry t row col y) → OnFalse a (s ≡ t) →
+      StandsFor s (learn t.me known y)
   by true None o_is a_is new old = subst (λ (r : Table). StandsFor r (learn t.me known y)) (sym new) (stands-filled t known y row col st other e f hr hc o_is)
   by true (Some x) o_is a_is new old = cc
   by false None o_is a_is new old = cc

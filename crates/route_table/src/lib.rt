@@ -2,22 +2,23 @@
 //! leading digits with the node and has digit d there (Pastry's routing table, Rowstron and Druschel 2001).
 #![tactic(auto)]
 
-ghost use Rattle.std.specs.Prelude.{◌≡◌, ◌≢◌, ◌<◌, ◌+◌, ◌*◌, ℕ, List, [], is_none, MatchOption, IfOk};
+ghost use Rattle.std.specs.Prelude.{◌≡◌, ◌<◌, ◌+◌, ◌*◌, List, [], is_none, MatchOption, IfOk};
 ghost use Rattle.std.specs.Bool.{OnTrue, OnFalse};
+ghost use Rattle.ring_math.specs.Names.{Id};
 ghost use Rattle.ring_math.specs.Members.{IsClosest};
 ghost use Rattle.ring_math.specs.Nearer.{improves};
-ghost use Rattle.ring_math.specs.Ring.{dist_of, is_nearer, shared_of};
+ghost use Rattle.ring_math.specs.Ring.{dist_of, is_nearer};
 ghost use Rattle.ring_math.specs.Sides.{learn as learn_of};
 ghost use Rattle.route_table.specs.Entries.{StandsFor, Improves, entry_in, is_new, with_entry};
 
-use ring_math::{Id, OutOfMemory, cw, digit, dist, shared};
+use ring_math::{DIGIT_VALUES, DIGITS, Id, OutOfMemory, cw, digit, dist, shared};
 use std::alloc::Global;
 use std::marker::Model;
 
-/// How many entries there are: 32 rows of 16.
-const ENTRIES: usize = 512;
+/// How many entries there are: a row for each digit, and a column for each of its values.
+const ENTRIES: usize = DIGITS as usize * DIGIT_VALUES as usize;
 
-/// 32 rows of 16 entries, each an identifier or empty.
+/// A row for each digit, with an entry for each value that it can have: an identifier or empty.
 #[derive(Drop)]
 pub struct RouteTable {
     me: Id,
@@ -25,34 +26,25 @@ pub struct RouteTable {
 }
 
 impl Model for RouteTable {
-    ghost use Rattle.std.specs.Prelude.{◌≡◌, length};
+    ghost use Rattle.std.specs.Prelude.{◌≡◌, ◌*◌, length};
+    ghost use Rattle.ring_math.specs.declared.limits.TheConstants.{DIGITS, DIGIT_VALUES};
     ghost use Rattle.route_table.specs.Entries.{Table};
 
     ghost Value = { Table };
 
     ghost view = { λ a. record { me = a.me; entries = a.entries.items } };
 
-    ghost invariant = { λ a. length a.entries.items ≡ 512 };
+    ghost invariant = { λ a. length a.entries.items ≡ DIGITS * DIGIT_VALUES };
 }
 
 /// The place of an entry among the rows.
 fn place_of(row: u8, col: u8) -> usize
-    requires row { row < 32 }
-    requires col { col < 16 }
-    ensures value { result ≡ 16 * row + col }
-    ensures within { result < 512 }
+    requires row { row < DIGITS }
+    requires col { col < DIGIT_VALUES }
+    ensures value { result ≡ DIGIT_VALUES * row + col }
+    ensures within { result < ENTRIES }
 {
-    16 * row as usize + col as usize
-}
-
-/// The row of another identifier: how many leading digits it has in common with the node.
-fn row_of(me: Id, id: Id) -> u8
-    requires { id ≢ me }
-    ensures value { result ≡ shared_of me id }
-    ensures within { result < 32 }
-{
-    let (_me, _id) = (me.0, id.0);
-    shared(me, id)
+    DIGIT_VALUES as usize * row as usize + col as usize
 }
 
 /// Whether an identifier is nearer to the key than another, whose distance from the key is known.
@@ -104,8 +96,8 @@ impl RouteTable {
 
     /// The entry of a row and a column. None exactly where nothing that was learnt belongs there.
     pub fn entry(&self, row: u8, col: u8) -> Option<Id>
-        requires row { row < 32 }
-        requires col { col < 16 }
+        requires row { row < DIGITS }
+        requires col { col < DIGIT_VALUES }
         ensures { result ≡ entry_in self.now row col }
     {
         self.entries[place_of(row, col)]
@@ -119,8 +111,8 @@ impl RouteTable {
 
     /// Fills an entry where it is empty, and answers whether it was.
     fn fill(&mut self, row: u8, col: u8, id: Id) -> bool
-        requires row { row < 32 }
-        requires col { col < 16 }
+        requires row { row < DIGITS }
+        requires col { col < DIGIT_VALUES }
         ensures answer { result ≡ is_none (entry_in self.old row col) }
         ensures filled { OnTrue result (self.new ≡ with_entry self.old row col id) }
         ensures same { OnFalse result (self.new ≡ self.old) }
@@ -137,22 +129,22 @@ impl RouteTable {
     /// is never learnt.
     pub fn learn(&mut self, id: Id) -> bool
         ensures me { self.new.me ≡ self.old.me }
-        ensures stands { (known : List ℕ) → StandsFor self.old known → StandsFor self.new (learn_of self.old.me known id) }
+        ensures stands { (known : List Id) → StandsFor self.old known → StandsFor self.new (learn_of self.old.me known id) }
         ensures answer { result ≡ is_new self.old id }
     {
         let node = self.me();
         if id == node {
             return false;
         }
-        let row = row_of(node, id);
+        let row = shared(node, id);
         self.fill(row, digit(id, row), id)
     }
 
     /// Of the entries that share at least `least` digits with the key and are nearer to it than `than`, the nearest.
     /// None exactly where there is none.
     pub fn best(&self, key: Id, least: u8, than: Id) -> Option<Id>
-        ensures { let better = λ (z : ℕ). Improves self.now.entries key least than z in
-            MatchOption result ((z : ℕ) → better z → ⊥) (λ y. IsClosest better key y) }
+        ensures { let better = λ (z : Id). Improves self.now.entries key least than z in
+            MatchOption result ((z : Id) → better z → ⊥) (λ y. IsClosest better key y) }
     {
         // What is nearer than the nearest so far is nearer than `than`, so one comparison does for both.
         let mut nearest = than;

@@ -18,7 +18,8 @@ NoneBelow-tail : (test : ℕ → Bool) (byte : ℕ) (text : List ℕ) (k : ℕ) 
 NoneBelow-tail test byte text k none = record { fails = λ j before. none.fails (suc j) (omega arith) }
 
 -- the first end of a line stands at place k
-pub lines_of-cut : (text : List ℕ) (k : ℕ) → k < length text → NoneBelow (is_byte 10) text k → is_byte 10 (get_or text k 0) ≡ true → lines_of text ≡ take k text ∷ lines_of (drop (suc k) text)
+pub lines_of-cut : (text : List ℕ) (k : ℕ) → k < length text → NoneBelow (is_byte 10) text k → is_byte 10 (get_or text k 0) ≡ true →
+    lines_of text ≡ take k text ∷ lines_of (drop (suc k) text)
 lines_of-cut [] k within none ends = absurd (omega arith)
 lines_of-cut (byte ∷ text) zero within none ends = rw ends refl
 lines_of-cut (byte ∷ text) (suc k) within none ends =
@@ -29,10 +30,12 @@ pub lines_of-last : (text : List ℕ) → 0 < length text → NoneBelow (is_byte
 lines_of-last [] some none = absurd (omega arith)
 lines_of-last (byte ∷ []) some none = rw (none.fails 0 (omega arith)) refl
 lines_of-last (byte ∷ next ∷ text) some none =
-    rw (none.fails 0 (omega arith)) (ap (onto_first byte) (lines_of-last (next ∷ text) (omega arith) (NoneBelow-tail (is_byte 10) byte (next ∷ text) (suc (length text)) none)))
+    rw (none.fails 0 (omega arith)) (ap (onto_first byte)
+    (lines_of-last (next ∷ text) (omega arith) (NoneBelow-tail (is_byte 10) byte (next ∷ text) (suc (length text)) none)))
 
 -- the first byte that ends a piece stands at place k
-pub slice_split-cut : (test : ℕ → Bool) (text : List ℕ) (k : ℕ) → k < length text → NoneBelow test text k → test (get_or text k 0) ≡ true → slice_split test text ≡ take k text ∷ slice_split test (drop (suc k) text)
+pub slice_split-cut : (test : ℕ → Bool) (text : List ℕ) (k : ℕ) → k < length text → NoneBelow test text k → test (get_or text k 0) ≡ true →
+    slice_split test text ≡ take k text ∷ slice_split test (drop (suc k) text)
 slice_split-cut test [] k within none ends = absurd (omega arith)
 slice_split-cut test (byte ∷ text) zero within none ends = rw ends refl
 slice_split-cut test (byte ∷ text) (suc k) within none ends =

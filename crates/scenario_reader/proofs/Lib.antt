@@ -4,5 +4,5 @@ mod Pieces
 mod Growth
 mod Marked
 mod Outcomes
-mod Limits
+mod TooMany
 pub mod Sizes

@@ -1,5 +1,6 @@
 -- Decimal numbers, digit by digit.
-use Rattle.std.proofs.Common.{◌≡◌, ℕ, ◌+◌, ◌*◌, ◌^◌, ◌<◌, ◌≤◌, true, false, List, [], ◌∷◌, length, get_or, drop, arith, refl, IsTrue, Option, Some, None, sym, ap}
+use Rattle.std.proofs.Common.{◌≡◌, ℕ, ◌+◌, ◌*◌, ◌^◌, ◌<◌, ◌≤◌, true, false, List, [], ◌∷◌, length, get_or, drop, arith, refl, IsTrue, Option, Some, None, sym}
+use Rattle.std.proofs.Common.{ap}
 use Rattle.std.specs.List.{list_all}
 use Rattle.std.specs.Option.{SomeIff}
 use Rattle.std.specs.Char.{digit_value, is_ascii_digit}
@@ -16,7 +17,8 @@ digits_value_after-ge before (digit ∷ digits) =
     omega (arith, digits_value_after-ge (before * 10 + digit_value digit) digits)
 
 -- one digit more
-pub digits_value_after-more : (before : ℕ) (text : List ℕ) (i : ℕ) → i < length text → digits_value_after 10 before (drop i text) ≡ digits_value_after 10 (before * 10 + digit_value (get_or text i 0)) (drop (i + 1) text)
+pub digits_value_after-more : (before : ℕ) (text : List ℕ) (i : ℕ) → i < length text →
+    digits_value_after 10 before (drop i text) ≡ digits_value_after 10 (before * 10 + digit_value (get_or text i 0)) (drop (i + 1) text)
 digits_value_after-more before text i within = at_drop_more (digits_value_after 10 before) text i 0 within
 
 -- a decimal spelling has digits alone

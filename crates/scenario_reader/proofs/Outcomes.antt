@@ -1,5 +1,6 @@
 -- What the outcomes of the reader's steps say of the words read.
-use Rattle.std.proofs.Common.{◌≡◌, ◌≢◌, ℕ, zero, suc, ◌==◌, ◌||◌, ◌<◌, ◌≤◌, Bool, true, false, cond, List, [], ◌∷◌, length, get_or, map, arith, refl, subst, sym, ap}
+use Rattle.std.proofs.Common.{◌≡◌, ◌≢◌, ℕ, zero, suc, ◌==◌, ◌||◌, ◌<◌, ◌≤◌, Bool, true, false, cond, List, [], ◌∷◌, length, get_or, map, arith, refl, subst}
+use Rattle.std.proofs.Common.{sym, ap}
 use Rattle.std.specs.Prelude.{◌↔◌, All, Any, Contains, IsSome, IsTrue, Option, Some, None, bytes_eq, find, is_some, option_map}
 use Rattle.std.specs.List.{list_any}
 use Rattle.std.proofs.lemmas.Bool.{eqb-false}
@@ -13,11 +14,13 @@ use Rattle.scenario_reader.specs.declared.words.Word.{Word}
 use Rattle.scenario_reader.specs.Words.{plain_word}
 
 -- where nothing came of an option, there was nothing
-pub None-from_option_map : {A B : Type 0} (f : A → B) (o : Option A) (answer : Option B) (found : Bool) → answer ≡ option_map f o → found ≡ is_some answer → found ≡ false → o ≡ None
+pub None-from_option_map : {A B : Type 0} (f : A → B) (o : Option A) (answer : Option B) (found : Bool) → answer ≡ option_map f o → found ≡ is_some answer →
+    found ≡ false → o ≡ None
 None-from_option_map f None answer found is told none = refl
 None-from_option_map f (Some x) answer found is told none = let some : found ≡ true = rw is at told in cc
 
-pub None-from_mapped : {A B : Type 0} (f : A → B) (o : Option A) (answer : Option B) (found : Bool) → option_map f o ≡ answer → found ≡ is_some o → found ≡ false → answer ≡ None
+pub None-from_mapped : {A B : Type 0} (f : A → B) (o : Option A) (answer : Option B) (found : Bool) → option_map f o ≡ answer → found ≡ is_some o →
+    found ≡ false → answer ≡ None
 None-from_mapped f None answer found is told none = sym is
 None-from_mapped f (Some x) answer found is told none = cc
 
@@ -56,7 +59,8 @@ Any-later : {X : Type 0} (P : X → Type 0) (x : X) (xs : List X) → Any P xs �
 Any-later P x xs has = (suc has.0, has.1, omega (arith, has.2), has.3, has.4)
 
 -- a file that was found is declared
-found_one : (P : FileLine → Type 0) (same : Bool) (first : FileLine) (files : List FileLine) (named : Option FileLine) (file : FileLine) → P file → (named ≡ Some file → Any P files) → cond same (Some first) named ≡ Some file → Any P (first ∷ files)
+found_one : (P : FileLine → Type 0) (same : Bool) (first : FileLine) (files : List FileLine) (named : Option FileLine) (file : FileLine) → P file →
+    (named ≡ Some file → Any P files) → cond same (Some first) named ≡ Some file → Any P (first ∷ files)
 found_one P true first files named file holds later is =
     let here : first ≡ file = cc in Any-here P first files (subst P (sym here) holds)
 found_one P false first files named file holds later is = Any-later P first files (later is)
@@ -75,7 +79,8 @@ IsFile-from_named files name file found =
     declared (λ (line : FileLine). line.file ≡ file.file) files name file refl found
 
 -- the identifier of a node that was found is one of theirs
-id_of_first : (same : Bool) (first : NodeLine) (nodes : List NodeLine) (named : Option NodeLine) (node : NodeLine) → (named ≡ Some node → Contains (ids nodes) node.id) → cond same (Some first) named ≡ Some node → Contains (ids (first ∷ nodes)) node.id
+id_of_first : (same : Bool) (first : NodeLine) (nodes : List NodeLine) (named : Option NodeLine) (node : NodeLine) →
+    (named ≡ Some node → Contains (ids nodes) node.id) → cond same (Some first) named ≡ Some node → Contains (ids (first ∷ nodes)) node.id
 id_of_first true first nodes named node later is =
     let here : first ≡ node = cc in (0, omega arith, ap (λ (n : NodeLine). n.id) here)
 id_of_first false first nodes named node later is =
@@ -98,7 +103,8 @@ words-one [] d some few = absurd (omega arith)
 words-one (word ∷ []) d some few = refl
 words-one (word ∷ next ∷ words) d some few = absurd (omega arith)
 
-pub words-two : (words : List Word) (d : Word) → 2 ≤ length words → length words < 3 → map plain_word words ≡ plain_word (get_or words 0 d) ∷ plain_word (get_or words 1 d) ∷ []
+pub words-two : (words : List Word) (d : Word) → 2 ≤ length words → length words < 3 →
+    map plain_word words ≡ plain_word (get_or words 0 d) ∷ plain_word (get_or words 1 d) ∷ []
 words-two [] d some few = absurd (omega arith)
 words-two (word ∷ []) d some few = absurd (omega arith)
 words-two (word ∷ next ∷ []) d some few = refl

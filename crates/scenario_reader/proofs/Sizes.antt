@@ -1,5 +1,6 @@
 -- How long a scenario can be: 10,000 lines of 9,000 bytes, each with its end.
-use Rattle.std.proofs.Common.{Result, Err, ◌≡◌, ◌≤◌, ℕ, suc, ◌+◌, ◌-◌, ◌*◌, Bool, true, false, ◌==◌, if◌then◌else◌, List, [], ◌∷◌, length, Option, Some, None, Ok, refl, arith, nat_lt}
+use Rattle.std.proofs.Common.{Result, Err, ◌≡◌, ◌≤◌, ℕ, suc, ◌+◌, ◌-◌, ◌*◌, Bool, true, false, ◌==◌, if◌then◌else◌, List, [], ◌∷◌, length, Option, Some, None}
+use Rattle.std.proofs.Common.{Ok, refl, arith, nat_lt}
 use Rattle.std.proofs.lemmas.Bool.Decides.{nat_tests}
 use Rattle.std.specs.List.{onto_first}
 use Rattle.scenario_reader.specs.declared.fault.LineFault.{LineFault}
@@ -70,7 +71,8 @@ line-short draft next n line e =
 not_past : (n : ℕ) → nat_lt 10000 n ≡ false → n ≤ 10000
 not_past n e = grind (arith, nat_tests)
 
-read_from-sized : (draft : Draft) (n : ℕ) (lines : List (List ℕ)) (s : PlainScenario) → n ≤ 10001 → read_from draft n lines ≡ Ok s → total lines ≤ 9001 * (10001 - n)
+read_from-sized : (draft : Draft) (n : ℕ) (lines : List (List ℕ)) (s : PlainScenario) → n ≤ 10001 → read_from draft n lines ≡ Ok s →
+    total lines ≤ 9001 * (10001 - n)
 read_from-sized draft n [] s h e = omega arith
 read_from-sized draft n (line ∷ lines) s h e =
     let read = within_lines n _ _ s e in

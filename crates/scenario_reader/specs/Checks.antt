@@ -1,8 +1,12 @@
 -- The checks of a line, by their numbers. Each gives the fault of line n, or None.
-use Rattle.std.specs.Prelude.{ℕ, ◌+◌, ◌*◌, ◌==◌, ◌&&◌, ◌||◌, not, nat_le, nat_lt, Bool, true, false, if◌then◌else◌, List, [], ◌∷◌, length, position, Option, Some, None, option_map, is_none}
+use Rattle.std.specs.Prelude.{ℕ, ◌+◌, ◌*◌, ◌==◌, ◌&&◌, ◌||◌, not, nat_le, nat_lt, Bool, true, false, if◌then◌else◌, List, [], ◌∷◌, length, position, Option}
+use Rattle.std.specs.Prelude.{Some, None, option_map, is_none}
 use Rattle.std.specs.List.{list_any}
 use Rattle.std.specs.Option.{is_some}
+use Rattle.ring_math.specs.declared.limits.TheConstants.{MOST_BYTES}
+use Rattle.wire_msg.specs.declared.limits.TheConstants.{MOST_COPIES}
 use Rattle.wire_codec.specs.Reading.{refusal}
+use Rattle.scenario_reader.specs.declared.limits.TheConstants.{MOST_NODES, MOST_FILES, MOST_NAME_BYTES, MOST_LINE_BYTES, MOST_REPEATS, MOST_DELIVERIES}
 use Rattle.scenario_reader.specs.declared.fault.LineFault.{LineFault}
 use Rattle.scenario_reader.specs.declared.fault.LineFault.TheVariants as fault
 use Rattle.scenario_reader.specs.declared.form.Form.{Form}
@@ -13,7 +17,10 @@ use Rattle.scenario_reader.specs.Tallies.{tally_of}
 use Rattle.scenario_reader.specs.Spelling.{is_name, number_of, bytes_of, salt_of, is_key, is_identifier, behind_at}
 use Rattle.scenario_reader.specs.Meanings.{amount, bytes_in, identifier_in}
 use Rattle.scenario_reader.specs.Words.{Word}
-use Rattle.scenario_reader.specs.Forms.{Part, NewNode, NewIdentifier, NewFile, NameBytes, OwnerBytes, Salt, Content, OldNode, OldFile, Key, CopyCount, SettleCount, ShuffleCount, MessageNumber, Seed, DupCount, NoiseBytes, parts_of, is_action}
+use Rattle.scenario_reader.specs.declared.form.Part.{Part}
+use Rattle.scenario_reader.specs.declared.form.Part.TheVariants.{NewNode, NewIdentifier, NewFile, NameBytes, OwnerBytes, Salt, Content, OldNode, OldFile, Key}
+use Rattle.scenario_reader.specs.declared.form.Part.TheVariants.{CopyCount, SettleCount, ShuffleCount, MessageNumber, Seed, DupCount, NoiseBytes}
+use Rattle.scenario_reader.specs.Forms.{parts_of, is_action}
 
 abbrev pub fault_if : Bool → LineFault → Option LineFault
 fault_if holds fault = if holds then Some fault else None
@@ -25,9 +32,9 @@ leftmost fails (part ∷ parts) [] = None
 leftmost fails (part ∷ parts) (word ∷ words) =
     if fails part word.text then Some word.place else leftmost fails parts words
 
--- 1. more than 9,000 bytes
+-- 1. more bytes than a line has at most
 abbrev pub too_long : ℕ → List ℕ → Option LineFault
-too_long n line = fault_if (nat_lt 9000 (length line)) (fault.TooLong n)
+too_long n line = fault_if (nat_lt MOST_LINE_BYTES (length line)) (fault.TooLong n)
 
 -- 2. the first byte outside 20 to 7e
 abbrev pub is_text_byte : ℕ → Bool
@@ -120,32 +127,32 @@ is_first form = false
 abbrev pub second_founder : Draft → ℕ → Form → Option LineFault
 second_founder draft n form = fault_if (is_first form && is_some draft.founder) (fault.SecondFounder n)
 
--- 11. a limit: 256 nodes and 256 files, 64 bytes of a name and an owner, 4,096 of a file, 1 to 9 copies, a dup of 1 to 4,
--- 1,000,000 of one settle or shuffle, 1,000,000 deliveries of all
+-- 11. a limit: of nodes and files, of the bytes of a name, an owner and a file, of copies, of a dup, and of deliveries, both of one
+-- settle or shuffle and of all
 abbrev pub is_outside : ℕ → ℕ → ℕ → Bool
 is_outside lowest highest n = nat_lt n lowest || nat_lt highest n
 
 abbrev pub passes_deliveries : Draft → ℕ → Bool
-passes_deliveries draft count = nat_lt 1000000 ((tally_of draft.actions).deliveries + count)
+passes_deliveries draft count = nat_lt MOST_DELIVERIES ((tally_of draft.actions).deliveries + count)
 
 abbrev pub settle_passes : Draft → ℕ → Bool
 settle_passes draft count =
-    nat_lt 1000000 count || passes_deliveries draft (count * (tally_of draft.actions).copies)
+    nat_lt MOST_DELIVERIES count || passes_deliveries draft (count * (tally_of draft.actions).copies)
 
 abbrev pub shuffle_passes : Draft → ℕ → Bool
-shuffle_passes draft count = nat_lt 1000000 count || passes_deliveries draft count
+shuffle_passes draft count = nat_lt MOST_DELIVERIES count || passes_deliveries draft count
 
 abbrev pub passes : Draft → Part → List ℕ → Bool
-passes draft NewNode text = nat_le 256 (length draft.nodes)
-passes draft NewFile text = nat_le 256 (length draft.files)
-passes draft NameBytes text = nat_lt 64 (length (bytes_in text))
-passes draft OwnerBytes text = nat_lt 64 (length (bytes_in text))
-passes draft Content text = nat_lt 4096 (length (bytes_in text))
-passes draft CopyCount text = is_outside 1 9 (amount text)
+passes draft NewNode text = nat_le MOST_NODES (length draft.nodes)
+passes draft NewFile text = nat_le MOST_FILES (length draft.files)
+passes draft NameBytes text = nat_lt MOST_NAME_BYTES (length (bytes_in text))
+passes draft OwnerBytes text = nat_lt MOST_NAME_BYTES (length (bytes_in text))
+passes draft Content text = nat_lt MOST_BYTES (length (bytes_in text))
+passes draft CopyCount text = is_outside 1 MOST_COPIES (amount text)
 passes draft SettleCount text = settle_passes draft (amount text)
 passes draft ShuffleCount text = shuffle_passes draft (amount text)
 passes draft MessageNumber text = passes_deliveries draft 1
-passes draft DupCount text = is_outside 1 4 (amount text)
+passes draft DupCount text = is_outside 1 MOST_REPEATS (amount text)
 passes draft part text = false
 
 abbrev pub over_limit : Draft → ℕ → Form → List Word → Option LineFault

@@ -1,33 +1,10 @@
--- The forms of line: the first word, and what each further word stands for.
+-- The forms of line: the first word, and what each further word stands for (`Part`).
 use Rattle.std.specs.Prelude.{ℕ, Bool, true, false, if◌then◌else◌, List, [], ◌∷◌, codes, bytes_eq, Option, Some, None}
 use Rattle.scenario_reader.specs.declared.form.Form.{Form}
 use Rattle.scenario_reader.specs.declared.form.Form.TheVariants as form
-
--- what a word of a line stands for
-pub data Part : Type 0 where
-  -- the name of a node that the line declares, and its identifier
-  NewNode : Part
-  NewIdentifier : Part
-  -- the name of a file that the line declares, what its identifier is made of, and its bytes
-  NewFile : Part
-  NameBytes : Part
-  OwnerBytes : Part
-  Salt : Part
-  Content : Part
-  -- the name of a node, and of a file, declared before
-  OldNode : Part
-  OldFile : Part
-  Key : Part
-  -- how many nodes an insert asks for
-  CopyCount : Part
-  -- how many deliveries a settle makes, and a shuffle; the number of a message; the seed of a shuffle
-  SettleCount : Part
-  ShuffleCount : Part
-  MessageNumber : Part
-  Seed : Part
-  -- how many times a delivery is made
-  DupCount : Part
-  NoiseBytes : Part
+use Rattle.scenario_reader.specs.declared.form.Part.{Part}
+use Rattle.scenario_reader.specs.declared.form.Part.TheVariants.{NewNode, NewIdentifier, NewFile, NameBytes, OwnerBytes, Salt, Content, OldNode, OldFile, Key}
+use Rattle.scenario_reader.specs.declared.form.Part.TheVariants.{CopyCount, SettleCount, ShuffleCount, MessageNumber, Seed, DupCount, NoiseBytes}
 
 -- the form of a line with this first word
 abbrev pub form_of : List ℕ → Option Form

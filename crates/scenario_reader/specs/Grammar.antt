@@ -1,5 +1,6 @@
 -- Which bytes are which scenario, and for all other bytes the one fault.
 use Rattle.std.specs.Prelude.{ℕ, ◌+◌, ◌==◌, nat_lt, Bool, false, if◌then◌else◌, List, [], ◌∷◌, Option, Some, None, Result, Ok, Err}
+use Rattle.scenario_reader.specs.declared.limits.TheConstants.{MOST_LINES}
 use Rattle.scenario_reader.specs.declared.fault.LineFault.{LineFault}
 use Rattle.scenario_reader.specs.declared.fault.LineFault.TheVariants as fault
 use Rattle.scenario_reader.specs.declared.form.Form.{Form}
@@ -71,7 +72,7 @@ and_then (Err fault) next = Err fault
 abbrev pub read_from : Draft → ℕ → List (List ℕ) → Result PlainScenario LineFault
 read_from draft n [] = finished draft n draft.founder
 read_from draft n (line ∷ lines) =
-    if nat_lt 10000 n then Err (fault.Limit n 0)
+    if nat_lt MOST_LINES n then Err (fault.Limit n 0)
     else and_then (read_line draft n line) (λ next. read_from next (n + 1) lines)
 
 -- the scenario that the bytes are, or their fault

@@ -3,6 +3,8 @@ use Rattle.std.specs.Prelude.{◌≡◌, ◌≢◌, ℕ, ◌+◌, ◌^◌, ◌<�
 use Rattle.wire_codec.specs.Reading.{refusal}
 use Rattle.wire_msg.specs.declared.command.Command.{Command}
 use Rattle.wire_msg.specs.declared.command.Command.TheVariants as command
+use Rattle.wire_msg.specs.declared.limits.TheConstants.{MOST_COPIES}
+use Rattle.scenario_reader.specs.declared.limits.TheConstants.{MOST_NODES, MOST_FILES, MOST_DELIVERIES}
 use Rattle.scenario_reader.specs.declared.node.NodeLine.{NodeLine}
 use Rattle.scenario_reader.specs.declared.node.FileLine.{FileLine}
 use Rattle.scenario_reader.specs.declared.action.Action.{Action}
@@ -13,16 +15,16 @@ use Rattle.scenario_reader.specs.Plain.{PlainScenario, Draft, ids, node_names, f
 use Rattle.scenario_reader.specs.Spelling.{is_name}
 use Rattle.scenario_reader.specs.Tallies.{start, tallied, tally_of}
 
--- at most 256 nodes, of names and identifiers that differ
+-- nodes within their limit, of names and identifiers that differ
 pub record AreNodes (nodes : List NodeLine) : Type 0 where
-  pub few : length nodes ≤ 256
+  pub few : length nodes ≤ MOST_NODES
   pub names_differ : AllPairs ◌≢◌ (node_names nodes)
   pub ids_differ : AllPairs ◌≢◌ (ids nodes)
   pub range : All (λ id. id < 2 ^ 128) (ids nodes)
 
--- at most 256 files, of names that differ
+-- files within their limit, of names that differ
 pub record AreFiles (files : List FileLine) : Type 0 where
-  pub few : length files ≤ 256
+  pub few : length files ≤ MOST_FILES
   pub names_differ : AllPairs ◌≢◌ (file_names files)
 
 -- some line declares this file; some line declares it with these bytes
@@ -36,7 +38,7 @@ IsFileOf files file bytes = Any (λ (line : FileLine). (line.file ≡ file) × (
 abbrev pub IsCommand : List NodeLine → List FileLine → Command → Type 0
 IsCommand nodes files (command.Join via) = Contains (ids nodes) via
 IsCommand nodes files (command.Lookup key) = key < 2 ^ 128
-IsCommand nodes files (command.Insert file copies bytes) = (1 ≤ copies) × (copies ≤ 9) × IsFileOf files file bytes
+IsCommand nodes files (command.Insert file copies bytes) = (1 ≤ copies) × (copies ≤ MOST_COPIES) × IsFileOf files file bytes
 IsCommand nodes files (command.Fetch file) = IsFile files file
 IsCommand nodes files command.GiveUp = Unit {0}
 IsCommand nodes files (command.Reclaim file) = IsFile files file
@@ -46,16 +48,16 @@ IsCommand nodes files (command.Reclaim file) = IsFile files file
 abbrev pub IsWhat : List NodeLine → List FileLine → Tally → What → Type 0
 IsWhat nodes files tally (what.Command number node command) =
     (number ≡ tally.commands + 1) × Contains (ids nodes) node × IsCommand nodes files command
-IsWhat nodes files tally (what.Settle n) = n ≤ 1000000
+IsWhat nodes files tally (what.Settle n) = n ≤ MOST_DELIVERIES
 IsWhat nodes files tally (what.Deliver n) = n < 2 ^ 64
-IsWhat nodes files tally (what.Shuffle seed count) = (seed < 2 ^ 64) × (count ≤ 1000000)
+IsWhat nodes files tally (what.Shuffle seed count) = (seed < 2 ^ 64) × (count ≤ MOST_DELIVERIES)
 IsWhat nodes files tally (what.Dup n) = (1 ≤ n) × (n ≤ 4)
 IsWhat nodes files tally (what.Noise node bytes) = Contains (ids nodes) node × IsSome (refusal bytes)
 
 -- An action may follow actions of this tally: the deliveries of all come to at most 1,000,000.
 pub record MayFollow (nodes : List NodeLine) (files : List FileLine) (tally : Tally) (what : What) : Type 0 where
   pub allowed : IsWhat nodes files tally what
-  pub deliveries : (tallied tally what).deliveries ≤ 1000000
+  pub deliveries : (tallied tally what).deliveries ≤ MOST_DELIVERIES
 
 -- each action may follow those before it
 abbrev pub AreActions : List NodeLine → List FileLine → Tally → List Action → Type 0
@@ -76,16 +78,16 @@ pub record DraftKeepsRules (draft : Draft) : Type 0 where
   pub files : AreFiles draft.files
   pub actions : AreActions draft.nodes draft.files start draft.actions
 
--- A node may be declared: it is one of 256, its name is spelled as one, and name and identifier are no other node's.
+-- A node may be declared: there is room for it, its name is spelled as one, and name and identifier are no other node's.
 pub record MayDeclareNode (draft : Draft) (name : List ℕ) (id : ℕ) : Type 0 where
-  pub few : length draft.nodes < 256
+  pub few : length draft.nodes < MOST_NODES
   pub spelled : IsTrue (is_name name)
   pub new_name : All (λ other. other ≢ name) (node_names draft.nodes)
   pub new_id : All (λ other. other ≢ id) (ids draft.nodes)
 
--- A file may be declared: it is one of 256, its name is spelled as one and is no other file's.
+-- A file may be declared: there is room for it, its name is spelled as one and is no other file's.
 pub record MayDeclareFile (draft : Draft) (name : List ℕ) : Type 0 where
-  pub few : length draft.files < 256
+  pub few : length draft.files < MOST_FILES
   pub spelled : IsTrue (is_name name)
   pub new_name : All (λ other. other ≢ name) (file_names draft.files)
 

@@ -5,15 +5,16 @@ use Rattle.std.specs.Char.{is_ascii_alphanumeric, is_ascii_digit}
 use Rattle.std.specs.Str.Parse.{digits_value}
 use Rattle.std.specs.Result.{result_ok}
 use Rattle.hex.specs.Hex.{decode_of, decode_sized}
+use Rattle.scenario_reader.specs.declared.limits.TheConstants.{MOST_LETTERS}
 use Rattle.ring_math.specs.Texts.{id_read}
 
 -- a letter, a digit or an underscore
 unfoldable pub is_name_byte : ℕ → Bool
 is_name_byte byte = is_ascii_alphanumeric byte || byte == 95
 
--- 1 to 32 of them
+-- one or more of them, within their limit
 abbrev pub is_name : List ℕ → Bool
-is_name text = nat_le 1 (length text) && nat_le (length text) 32 && list_all is_name_byte text
+is_name text = nat_le 1 (length text) && nat_le (length text) MOST_LETTERS && list_all is_name_byte text
 
 -- `0`, or decimal digits that do not begin with 0
 abbrev pub is_decimal : List ℕ → Bool

@@ -12,6 +12,7 @@ use crate::action::{Action, What};
 use crate::builder::ScenarioBuilder;
 use crate::fault::LineFault;
 use crate::form::Form;
+use crate::limits::{MOST_DELIVERIES, MOST_REPEATS};
 use crate::operands::{bytes_at, check_founded, node_at, number_at};
 use crate::words::Word;
 use std::alloc::Global;
@@ -19,7 +20,6 @@ use wire_codec::is_frame;
 use wire_msg::Frame;
 
 /// The most deliveries of one settle or shuffle, and of a scenario.
-const DELIVERIES: u64 = 1_000_000;
 
 /// Reads `settle N`.
 pub(crate) fn read_settle(
@@ -45,7 +45,7 @@ pub(crate) fn read_settle(
 fn settle_passes(draft: &ScenarioBuilder, amount: u64) -> bool
     ensures { result ≡ settle_passes draft.now amount }
 {
-    amount > DELIVERIES || passes_deliveries(draft, amount * u64::from(draft.tally().copies))
+    amount > MOST_DELIVERIES || passes_deliveries(draft, amount * u64::from(draft.tally().copies))
 }
 
 /// Reads `deliver N`.
@@ -81,7 +81,7 @@ pub(crate) fn read_shuffle(
     let seed = number_at(line, seed)?;
     let amount = number_at(line, count)?;
     check_founded(draft, line)?;
-    if amount > DELIVERIES || passes_deliveries(draft, amount) {
+    if amount > MOST_DELIVERIES || passes_deliveries(draft, amount) {
         let place = count.place;
         return Err(LineFault::Limit { line, place });
     }
@@ -95,10 +95,10 @@ pub(crate) fn read_shuffle(
 
 /// Whether so many deliveries more pass the limit of all.
 fn passes_deliveries(draft: &ScenarioBuilder, count: u64) -> bool
-    requires { count ≤ 255 * 1000000 }
+    requires { count ≤ 255 * MOST_DELIVERIES }
     ensures { result ≡ passes_deliveries draft.now count }
 {
-    u64::from(draft.tally().deliveries) + count > DELIVERIES
+    u64::from(draft.tally().deliveries) + count > MOST_DELIVERIES
 }
 
 /// Reads `dup N`.
@@ -112,7 +112,7 @@ pub(crate) fn read_dup(
 {
     let amount = number_at(line, copies)?;
     check_founded(draft, line)?;
-    if amount < 1 || amount > 4 {
+    if amount < 1 || amount > MOST_REPEATS {
         let place = copies.place;
         return Err(LineFault::Limit { line, place });
     }

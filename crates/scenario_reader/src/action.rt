@@ -21,7 +21,7 @@ pub enum What {
         seed: u64,
         count: u32,
     },
-    /// From here on each delivery of a settle is made so many times, 1 to 4.
+    /// From here on each delivery of a settle is made so many times, 1 to [`MOST_REPEATS`].
     Dup(u8),
     /// Bytes that are no frame reach a node.
     Noise {

@@ -2,6 +2,7 @@
 
 ghost use Rattle.std.specs.Prelude.{◌≡◌, ◌≢◌, ◌+◌, ◌==◌, ◌≤◌, Some, Ok, OnOk, OnErr, IfSome, IsSome, IsFalse, All, Contains, IsTrue, is_some, length, option_map};
 ghost use Rattle.std.specs.List.{list_any};
+ghost use Rattle.scenario_reader.specs.declared.limits.TheConstants.{MOST_DELIVERIES};
 ghost use Rattle.scenario_reader.specs.declared.node.NodeLine.{NodeLine as PlainNode};
 ghost use Rattle.scenario_reader.specs.Plain.{nothing_yet, with_founder, ids, file_names, node_named, file_named};
 ghost use Rattle.scenario_reader.specs.Effects.{with_node, with_file, with_action};
@@ -207,7 +208,7 @@ impl ScenarioBuilder {
     /// Whether a node is the founder.
     pub(crate) fn has_founder(&self) -> bool
         ensures answer { result ≡ is_some self.now.founder }
-        ensures deliveries { (tally_of self.now.actions).deliveries ≤ 1000000 }
+        ensures deliveries { (tally_of self.now.actions).deliveries ≤ MOST_DELIVERIES }
     {
         self.founder.is_some()
     }
@@ -215,7 +216,7 @@ impl ScenarioBuilder {
     /// The number of the next command.
     pub(crate) fn next_number(&self) -> u64
         ensures value { result ≡ (tally_of self.now.actions).commands + 1 }
-        ensures limit { (tally_of self.now.actions).deliveries ≤ 1000000 }
+        ensures limit { (tally_of self.now.actions).deliveries ≤ MOST_DELIVERIES }
     {
         self.tally.commands + 1
     }

@@ -21,7 +21,7 @@ use crate::operands::{check_founded, check_key, file_at, key_at, node_at, number
 use crate::words::Word;
 use ring_math::{FileId, Id, OutOfMemory};
 use std::alloc::Global;
-use wire_msg::{Command, Copies};
+use wire_msg::{Command, Copies, MOST_COPIES};
 
 /// Reads `join NAME VIA`.
 pub(crate) fn read_join(
@@ -96,9 +96,9 @@ pub(crate) fn read_insert(
 }
 
 fn copies_of(count: u64) -> Option<Copies>
-    ensures { MatchOption result (is_outside 1 9 count ≡ true) (λ copies. (is_outside 1 9 count ≡ false) × (copies ≡ count) × (1 ≤ count) × (count ≤ 9)) }
+    ensures { MatchOption result (is_outside 1 MOST_COPIES count ≡ true) (λ copies. (is_outside 1 MOST_COPIES count ≡ false) × (copies ≡ count) × (1 ≤ count) × (count ≤ MOST_COPIES)) }
 {
-    if count > 9 {
+    if count > u64::from(MOST_COPIES) {
         return None;
     }
     Copies::new(count as u8)

@@ -1,6 +1,7 @@
 //! The lines that declare.
 
 ghost use Rattle.std.specs.Prelude.{◌≡◌, ◌≢◌, ◌<◌, ◌≤◌, ◌∷◌, ◌⊎◌, [], true, false, Some, All, IfErr, IfNone, IfOk, IfSome, MatchResult, length, nat_lt};
+ghost use Rattle.ring_math.specs.declared.limits.TheConstants.{MOST_BYTES};
 ghost use Rattle.scenario_reader.specs.declared.fault.LineFault.TheVariants as fault;
 ghost use Rattle.scenario_reader.specs.Checks.{is_twice, leftmost};
 ghost use Rattle.scenario_reader.specs.Forms.{parts_of};
@@ -13,20 +14,13 @@ ghost use Rattle.scenario_reader.specs.Words.{plain_word};
 use crate::builder::ScenarioBuilder;
 use crate::fault::LineFault;
 use crate::form::Form;
+use crate::limits::{MOST_FILES, MOST_NAME_BYTES, MOST_NODES};
 use crate::operands::{
     bytes_at, check_identifier, check_length, check_name, identifier_at, node_at, salt_at,
 };
 use crate::words::Word;
 use ring_math::{Bytes, BytesFault, Id, file_id};
 use std::alloc::Global;
-
-/// The most nodes, and the most files.
-const NODES: usize = 256;
-
-const FILES: usize = 256;
-
-/// The most bytes of a file's name, and of its owner.
-const NAME_BYTES: usize = 64;
 
 /// Reads `node NAME ID`.
 pub(crate) fn read_node(
@@ -44,7 +38,7 @@ pub(crate) fn read_node(
     if let Some(place) = place_of_twice(draft, name, id, identifier) {
         return Err(LineFault::Twice { line, place });
     }
-    if draft.node_count() >= NODES {
+    if draft.node_count() >= MOST_NODES {
         let place = name.place;
         return Err(LineFault::Limit { line, place });
     }
@@ -101,12 +95,12 @@ pub(crate) fn read_file(
         let place = words.file.place;
         return Err(LineFault::Twice { line, place });
     }
-    if draft.file_count() >= FILES {
+    if draft.file_count() >= MOST_FILES {
         let place = words.file.place;
         return Err(LineFault::Limit { line, place });
     }
-    check_length(line, &words.name, &name, NAME_BYTES)?;
-    check_length(line, &words.owner, &owner, NAME_BYTES)?;
+    check_length(line, &words.name, &name, MOST_NAME_BYTES)?;
+    check_length(line, &words.owner, &owner, MOST_NAME_BYTES)?;
     let bytes = content_of(alloc, line, &words.content, &content)?;
     let file = file_id(&name, &owner, &salt);
     draft.add_file(alloc, words.file.text, file, bytes, line)?;
@@ -115,8 +109,8 @@ pub(crate) fn read_file(
 
 /// The bytes of a file, which are not more than may be.
 fn content_of(alloc: Global, line: u32, word: &Word<'_>, content: &[u8]) -> Result<Bytes, LineFault>
-    ensures ok { IfOk result (λ bytes. (nat_lt 4096 (length content.now) ≡ false) × (bytes ≡ content.now)) }
-    ensures err { IfErr result (λ e. (e ≡ fault.OutOfMemory) ⊎ ((nat_lt 4096 (length content.now) ≡ true) × (e ≡ fault.Limit line word.now.place))) }
+    ensures ok { IfOk result (λ bytes. (nat_lt MOST_BYTES (length content.now) ≡ false) × (bytes ≡ content.now)) }
+    ensures err { IfErr result (λ e. (e ≡ fault.OutOfMemory) ⊎ ((nat_lt MOST_BYTES (length content.now) ≡ true) × (e ≡ fault.Limit line word.now.place))) }
 {
     match Bytes::copy_of(alloc, content) {
         Ok(bytes) => Ok(bytes),

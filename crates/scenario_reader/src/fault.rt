@@ -9,7 +9,7 @@ use ring_math::OutOfMemory;
 /// a line from 0. A place is that of the first byte of the word at fault.
 #[derive(Clone, Copy, PartialEq, Eq, Debug)]
 pub enum LineFault {
-    /// The line has more than 9,000 bytes.
+    /// The line has more than [`MOST_LINE_BYTES`].
     TooLong { line: u32 },
     /// A byte outside 20 to 7e stands here, the first.
     NotText { line: u32, place: u32 },
@@ -21,7 +21,7 @@ pub enum LineFault {
     Number { line: u32, place: u32 },
     /// Hexadecimal digits are wanted, so many as the language says.
     Hex { line: u32, place: u32 },
-    /// A name is not 1 to 32 letters, digits and underscores, or a name that is used was not declared on an earlier line.
+    /// A name is not 1 to [`MOST_LETTERS`] letters, digits and underscores, or a name that is used was not declared on an earlier line.
     Name { line: u32, place: u32 },
     /// A name was declared before, or an identifier is another node's.
     Twice { line: u32, place: u32 },
@@ -29,7 +29,7 @@ pub enum LineFault {
     NoFounder { line: u32 },
     /// A second founder.
     SecondFounder { line: u32 },
-    /// A limit of the language is passed. Line 10,001 passes the limit of lines, at place 0.
+    /// A limit of the language is passed. The line behind the last of [`MOST_LINES`] passes the limit of lines, at place 0.
     Limit { line: u32, place: u32 },
     /// The bytes of a noise are a frame.
     Frame { line: u32, place: u32 },

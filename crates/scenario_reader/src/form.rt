@@ -1,11 +1,11 @@
 //! The forms of line.
 
 ghost use Rattle.std.specs.Prelude.{◌≡◌, bytes_eq};
-ghost use Rattle.scenario_reader.specs.Forms.{form_of};
+ghost use Rattle.scenario_reader.specs.Forms.{form_of, parts_of};
 
 /// A form of line, by its first word.
 #[derive(Clone, Copy)]
-pub(crate) enum Form {
+pub enum Form {
     Node,
     File,
     First,
@@ -22,8 +22,75 @@ pub(crate) enum Form {
     Noise,
 }
 
-/// The form of a line with this first word.
-pub(crate) fn form_with(word: &[u8]) -> Option<Form>
+/// What a word of a line stands for.
+#[derive(Clone, Copy)]
+pub enum Part {
+    /// The name of a node that the line declares.
+    NewNode,
+    /// The identifier of that node.
+    NewIdentifier,
+    /// The name of a file that the line declares.
+    NewFile,
+    /// The name that the file's identifier is made of.
+    NameBytes,
+    /// The owner that the file's identifier is made of.
+    OwnerBytes,
+    /// The salt that the file's identifier is made of.
+    Salt,
+    /// The bytes of the file.
+    Content,
+    /// The name of a node that was declared before.
+    OldNode,
+    /// The name of a file that was declared before.
+    OldFile,
+    /// A key.
+    Key,
+    /// How many nodes an insert asks for.
+    CopyCount,
+    /// How many deliveries a settle makes.
+    SettleCount,
+    /// How many deliveries a shuffle makes.
+    ShuffleCount,
+    /// The number of a message.
+    MessageNumber,
+    /// The seed of a shuffle.
+    Seed,
+    /// How many times a delivery is made.
+    DupCount,
+    /// The bytes of a noise.
+    NoiseBytes,
+}
+
+impl Form {
+    /// What the words behind the first stand for, in order.
+    pub fn parts(self) -> &'static [Part]
+        ensures { result.now ≡ parts_of self }
+    {
+        match self {
+            Form::Node => &[Part::NewNode, Part::NewIdentifier],
+            Form::File => &[
+                Part::NewFile,
+                Part::NameBytes,
+                Part::OwnerBytes,
+                Part::Salt,
+                Part::Content,
+            ],
+            Form::First | Form::GiveUp => &[Part::OldNode],
+            Form::Join => &[Part::OldNode, Part::OldNode],
+            Form::Lookup => &[Part::OldNode, Part::Key],
+            Form::Insert => &[Part::OldNode, Part::OldFile, Part::CopyCount],
+            Form::Fetch | Form::Reclaim => &[Part::OldNode, Part::OldFile],
+            Form::Settle => &[Part::SettleCount],
+            Form::Deliver => &[Part::MessageNumber],
+            Form::Shuffle => &[Part::Seed, Part::ShuffleCount],
+            Form::Dup => &[Part::DupCount],
+            Form::Noise => &[Part::OldNode, Part::NoiseBytes],
+        }
+    }
+}
+
+/// The form of a line with this first word. None where no line begins with it.
+pub fn form_with(word: &[u8]) -> Option<Form>
     ensures { result ≡ form_of word.now }
 {
     if spells(word, "node") {

@@ -8,6 +8,7 @@ mod command;
 mod declare;
 mod fault;
 mod form;
+mod limits;
 mod lines;
 mod name;
 mod named;
@@ -24,6 +25,11 @@ mod words;
 pub use action::{Action, What};
 pub use builder::ScenarioBuilder;
 pub use fault::LineFault;
+pub use form::{Form, Part, form_with};
+pub use limits::{
+    MOST_DELIVERIES, MOST_FILES, MOST_LETTERS, MOST_LINE_BYTES, MOST_LINES, MOST_NAME_BYTES,
+    MOST_NODES, MOST_REPEATS,
+};
 pub use name::Name;
 pub use node::{FileLine, NodeLine};
 pub use read::read_scenario;

@@ -3,25 +3,27 @@
 ghost use Rattle.std.specs.Prelude.{◌≡◌, IsTrue, SomeIff};
 ghost use Rattle.scenario_reader.specs.Spelling.{is_name};
 
+use crate::limits::MOST_LETTERS;
 use crate::spelling::is_name;
 use std::marker::Model;
 
-/// A name of a node or a file: 1 to 32 letters, digits or underscores.
+/// A name of a node or a file: 1 to [`MOST_LETTERS`] letters, digits or underscores.
 #[derive(Drop)]
 pub struct Name {
-    letters: [u8; 32],
+    letters: [u8; MOST_LETTERS],
     len: u8,
 }
 
 impl Model for Name {
     ghost use Rattle.std.specs.Prelude.{ℕ, List, take, ◌≤◌, IsTrue};
+    ghost use Rattle.scenario_reader.specs.declared.limits.TheConstants.{MOST_LETTERS};
     ghost use Rattle.scenario_reader.specs.Spelling.{is_name};
 
     ghost Value = { List ℕ };
 
     ghost view = { λ a. take a.len a.letters };
 
-    ghost invariant = { λ a. (a.len ≤ 32) × IsTrue (is_name (take a.len a.letters)) };
+    ghost invariant = { λ a. (a.len ≤ MOST_LETTERS) × IsTrue (is_name (take a.len a.letters)) };
 }
 
 impl Name {
@@ -32,7 +34,7 @@ impl Name {
         if !is_name(bytes) {
             return None;
         }
-        let mut letters = [0; 32];
+        let mut letters = [0; MOST_LETTERS];
         letters[..bytes.len()].copy_from_slice(bytes);
         Some(Name {
             letters,

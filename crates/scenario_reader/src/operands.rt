@@ -4,6 +4,7 @@ ghost use Rattle.std.specs.Prelude.{◌≡◌, ◌≢◌, ◌⊎◌, ◌+◌, �
 ghost use Rattle.ring_math.specs.Keys.{key_of};
 ghost use Rattle.wire_codec.specs.Reading.{refusal};
 ghost use Rattle.scenario_reader.specs.declared.fault.LineFault.TheVariants as fault;
+ghost use Rattle.scenario_reader.specs.declared.limits.TheConstants.{MOST_DELIVERIES};
 ghost use Rattle.scenario_reader.specs.Checks.{is_frame, is_outside, is_undeclared};
 ghost use Rattle.scenario_reader.specs.Meanings.{file_key, identifier_in, key_in, node_id};
 ghost use Rattle.scenario_reader.specs.Plain.{file_named, ids};
@@ -193,7 +194,7 @@ pub(crate) fn check_length(
 /// Refuses an action that no founder stands before.
 pub(crate) fn check_founded(draft: &ScenarioBuilder, line: u32) -> Result<(), LineFault>
     ensures founded { MatchResult result (λ _. IsSome draft.now.founder) (λ e. (draft.now.founder ≡ None) × (e ≡ fault.NoFounder line)) }
-    ensures deliveries { (tally_of draft.now.actions).deliveries ≤ 1000000 }
+    ensures deliveries { (tally_of draft.now.actions).deliveries ≤ MOST_DELIVERIES }
 {
     if !draft.has_founder() {
         return Err(LineFault::NoFounder { line });

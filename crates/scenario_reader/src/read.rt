@@ -14,16 +14,11 @@ use crate::command::{read_fetch, read_giveup, read_insert, read_join, read_looku
 use crate::declare::{FileWords, read_file, read_first, read_node};
 use crate::fault::LineFault;
 use crate::form::{Form, form_with};
+use crate::limits::{MOST_LINE_BYTES, MOST_LINES};
 use crate::lines::split_line;
 use crate::scenario::Scenario;
 use crate::words::{Word, words_in};
 use std::alloc::Global;
-
-/// The most lines.
-const LINES: u32 = 10_000;
-
-/// The most bytes of a line without its end.
-const LINE_BYTES: usize = 9_000;
 
 /// The scenario that the bytes are, or their fault.
 ///
@@ -39,7 +34,7 @@ pub fn read_scenario(alloc: Global, bytes: &[u8]) -> Result<Scenario, LineFault>
     let mut line = 1;
     let mut rest = bytes;
     while !rest.is_empty() {
-        if line > LINES {
+        if line > MOST_LINES {
             return Err(LineFault::Limit { line, place: 0 });
         }
         let (text, behind) = split_line(rest);
@@ -71,7 +66,7 @@ fn read_line(
 ) -> Result<(), LineFault>
     ensures { Gives (read_line draft.old line text.now) result draft.new }
 {
-    if text.len() > LINE_BYTES {
+    if text.len() > MOST_LINE_BYTES {
         return Err(LineFault::TooLong { line });
     }
     if let Some(place) = first_outside_text(text) {
@@ -138,7 +133,7 @@ fn read_form(
     form: Form,
     words: &[Word<'_>],
 ) -> Result<(), LineFault>
-    requires { length words.now ≤ 9000 }
+    requires { length words.now ≤ MOST_LINE_BYTES }
     ensures { Gives (read_form draft.old line form (map plain_word words.now)) result draft.new }
 {
     match (form, words) {

@@ -5,11 +5,13 @@ ghost use Rattle.std.specs.Char.{digit_value, is_ascii_digit};
 ghost use Rattle.std.specs.List.{list_all};
 ghost use Rattle.scenario_reader.specs.Spelling.{is_name_byte, is_name, is_decimal, number_of, is_dash, behind_at};
 
-/// Whether these bytes are 1 to 32 letters, digits or underscores.
+use crate::limits::MOST_LETTERS;
+
+/// Whether these bytes are 1 to [`MOST_LETTERS`] letters, digits or underscores.
 pub(crate) fn is_name(text: &[u8]) -> bool
     ensures { result ≡ is_name text.now }
 {
-    !text.is_empty() && text.len() <= 32 && are_name_bytes(text)
+    !text.is_empty() && text.len() <= MOST_LETTERS && are_name_bytes(text)
 }
 
 fn are_name_bytes(text: &[u8]) -> bool

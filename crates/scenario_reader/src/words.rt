@@ -2,6 +2,7 @@
 
 ghost use Rattle.std.specs.Prelude.{◌≡◌, ℕ, ◌+◌, ◌<◌, ◌≤◌, ◌∷◌, true, false, [], get_or, length, map, vec_len, IfNone, IfOk, IfSome};
 ghost use Rattle.std.specs.List.{prefix_len, slice_split};
+ghost use Rattle.scenario_reader.specs.declared.limits.TheConstants.{MOST_LINE_BYTES};
 ghost use Rattle.scenario_reader.specs.Words.{is_space, plain_word, words_from, words_of};
 
 use memchr::memchr;
@@ -17,9 +18,9 @@ pub(crate) struct Word<'a> {
 
 /// The words of a line, which spaces separate.
 pub(crate) fn words_in<'a>(alloc: Global, line: &'a [u8]) -> Result<Vec<Word<'a>>, OutOfMemory>
-    requires { length line.now ≤ 9000 }
+    requires { length line.now ≤ MOST_LINE_BYTES }
     ensures words { IfOk result (λ words. map plain_word words.items ≡ words_of line.now) }
-    ensures few { IfOk result (λ words. vec_len words ≤ 9000) }
+    ensures few { IfOk result (λ words. vec_len words ≤ MOST_LINE_BYTES) }
 {
     let mut words = Vec::new(alloc);
     let mut place: u32 = 0;

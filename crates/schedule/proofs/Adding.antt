@@ -1,5 +1,6 @@
 -- The actions of a made scenario are added one after another.
-use Rattle.std.proofs.Common.{◌≡◌, ◌<◌, ◌≤◌, ℕ, zero, suc, ◌+◌, List, [], ◌∷◌, ◌++◌, length, drop, get_or, IsSome, sym, subst, ap, ◌∙◌, arith, add-one, append_assoc, append-nil, drop-cons}
+use Rattle.std.proofs.Common.{◌≡◌, ◌<◌, ◌≤◌, ℕ, zero, suc, ◌+◌, List, [], ◌∷◌, ◌++◌, length, drop, get_or, IsSome, sym, subst, ap, ◌∙◌, arith, add-one}
+use Rattle.std.proofs.Common.{append_assoc, append-nil, drop-cons}
 use Rattle.std.proofs.lemmas.List.{drop_all}
 use Rattle.overlay_rules.proofs.Each.{Each}
 use Rattle.scenario_reader.specs.declared.action.Action.{Action}
@@ -24,9 +25,11 @@ task_at nodes (x ∷ xs) (suc i) d each h = task_at nodes xs i d each.1 (omega a
 -- the action of the next task, and those behind it
 pub next_action : (nodes seed number line i : ℕ) (done all : List Action) (tasks : List Task) (d : Task) → i < length tasks →
     done ++ written nodes seed number line (drop i tasks) ≡ all →
-    done ++ record { line = line; what = what_of nodes seed number (get_or tasks i d) } ∷ written nodes seed (number_after (get_or tasks i d) number) (line + 1) (drop (i + 1) tasks) ≡ all
+    done ++ record { line = line; what = what_of nodes seed number (get_or tasks i d) } ∷ written nodes seed (number_after (get_or tasks i d) number) (line + 1)
+    (drop (i + 1) tasks) ≡ all
 next_action nodes seed number line i done all tasks d h is =
-    ap (λ n. done ++ record { line = line; what = what_of nodes seed number (get_or tasks i d) } ∷ written nodes seed (number_after (get_or tasks i d) number) (line + 1) (drop n tasks)) (add-one i) ∙
+    ap (λ n. done ++ record { line = line; what = what_of nodes seed number (get_or tasks i d) } ∷ written nodes seed (number_after (get_or tasks i d) number)
+    (line + 1) (drop n tasks)) (add-one i) ∙
     ap (λ ts. done ++ written nodes seed number line ts) (sym (drop-cons tasks i d h)) ∙ is
 
 pub may_act : (nodes : List NodeLine) (files : List FileLine) (first now : Draft) (action : Action) (rest all : List Action) (w : What) →
@@ -55,7 +58,8 @@ action_added now next action said rest all is same at =
 pub all_added : (nodes seed number line i : ℕ) (first now : Draft) (all : List Action) (tasks : List Task) → length tasks ≤ i →
     now.actions ++ written nodes seed number line (drop i tasks) ≡ all → now ≡ record first { actions = now.actions } → now ≡ record first { actions = all }
 all_added nodes seed number line i first now all tasks h is same =
-    same ∙ ap (λ acts. record first { actions = acts }) (sym (append-nil now.actions) ∙ ap (λ ts. now.actions ++ written nodes seed number line ts) (sym (drop_all i tasks h)) ∙ is)
+    same ∙ ap (λ acts. record first { actions = acts })
+    (sym (append-nil now.actions) ∙ ap (λ ts. now.actions ++ written nodes seed number line ts) (sym (drop_all i tasks h)) ∙ is)
 
 pub number_step : (task : Task) (number : ℕ) → number_after task number ≤ number + 1
 number_step (Join node) number = omega arith

@@ -1,9 +1,11 @@
 -- Whatever is acted on a play adds to it, and takes nothing back.
-use Rattle.std.proofs.Common.{ℕ, zero, suc, ◌+◌, Bool, true, false, nat_lt, if◌then◌else◌, Option, Some, None, List, [], ◌∷◌, ◌++◌, length, refl, sym, subst, ap, ◌∙◌, arith, append_assoc, append-nil}
+use Rattle.std.proofs.Common.{ℕ, zero, suc, ◌+◌, Bool, true, false, nat_lt, if◌then◌else◌, Option, Some, None, List, [], ◌∷◌, ◌++◌, length, refl, sym, subst}
+use Rattle.std.proofs.Common.{ap, ◌∙◌, arith, append_assoc, append-nil}
 use Rattle.overlay_rules.specs.declared.entry.Event.{Event}
 use Rattle.overlay_rules.specs.declared.entry.Event.TheVariants as event
 use Rattle.overlay_rules.specs.Record.{sent_in}
-use Rattle.overlay_rules.specs.Played.{Action as Act, Command, Settle, Deliver, Shuffle, Dup, Noise, Play, entry_of, happened, oldest_undelivered, delivered, delivered_oldest, settled, in_world, delivered_once, drawn, shuffled, acted, acted_all}
+use Rattle.overlay_rules.specs.Played.{Action as Act, Command, Settle, Deliver, Shuffle, Dup, Noise, Play, entry_of, happened, oldest_undelivered, delivered}
+use Rattle.overlay_rules.specs.Played.{delivered_oldest, settled, in_world, delivered_once, drawn, shuffled, acted, acted_all}
 use Rattle.scenario_reader.specs.Plain.{PlainScenario}
 use Rattle.schedule.specs.Cursors.{Spot, left_at}
 use Rattle.schedule.specs.Playing.{IsBeginning, IsPlayedTo}

@@ -1,5 +1,6 @@
 -- Bytes that are filled with the words of a generator, and the words that a seed's generator gives.
-use Rattle.std.proofs.Common.{◌≡◌, ◌<◌, ◌≤◌, ℕ, zero, suc, ◌+◌, ◌^◌, ◌%◌, List, [], ◌∷◌, ◌++◌, length, take, w32, refl, sym, ap, ◌∙◌, arith, add-one, add-zero, append-nil}
+use Rattle.std.proofs.Common.{◌≡◌, ◌<◌, ◌≤◌, ℕ, zero, suc, ◌+◌, ◌^◌, ◌%◌, List, [], ◌∷◌, ◌++◌, length, take, w32, refl, sym, ap, ◌∙◌, arith, add-one, add-zero}
+use Rattle.std.proofs.Common.{append-nil}
 use Rattle.std.specs.Int.{to_be_bytes}
 use Rattle.std.proofs.lemmas.Grind.{flat_map-append}
 use Rattle.std.proofs.lemmas.Slice.{take-put_mid}

@@ -1,5 +1,6 @@
 -- The actions of a made scenario keep the rules of scenarios: they name declared nodes and files, and their deliveries are few.
-use Rattle.std.proofs.Common.{◌≡◌, ◌<◌, ◌≤◌, ℕ, zero, suc, ◌+◌, ◌-◌, ◌*◌, ◌^◌, List, [], ◌∷◌, ◌++◌, length, length-append, map, get_or, Contains, None, IsNone, subst, refl, sym, ap, ◌∙◌, zero-add, arith}
+use Rattle.std.proofs.Common.{◌≡◌, ◌<◌, ◌≤◌, ℕ, zero, suc, ◌+◌, ◌-◌, ◌*◌, ◌^◌, List, [], ◌∷◌, ◌++◌, length, length-append, map, get_or, Contains, None, IsNone}
+use Rattle.std.proofs.Common.{subst, refl, sym, ap, ◌∙◌, zero-add, arith}
 use Rattle.std.specs.List.{flat_map, range_with_len}
 use Rattle.std.proofs.Math.Nat.{mod-lt}
 use Rattle.std.proofs.lemmas.List.{get_or-map, length-map}
@@ -132,9 +133,11 @@ alone_are_tasks nodes (i ∷ members) h = (h.0, (omega arith, alone_are_tasks no
 
 group_is_tasks : (nodes : ℕ) (members : List ℕ) → Each (λ i. i < nodes) members → Each (IsTask nodes) (group_tasks members)
 group_is_tasks nodes members h =
-    Each-append (IsTask nodes) (map (λ node. Join node) members) _ (joins_are_tasks nodes members h) (omega arith, (omega arith, alone_are_tasks nodes members h))
+    Each-append (IsTask nodes) (map (λ node. Join node) members) _ (joins_are_tasks nodes members h)
+    (omega arith, (omega arith, alone_are_tasks nodes members h))
 
-groups_are_tasks : (nodes : ℕ) (groups : List (List ℕ)) → Each (λ (members : List ℕ). Each (λ i. i < nodes) members) groups → Each (IsTask nodes) (flat_map group_tasks groups)
+groups_are_tasks : (nodes : ℕ) (groups : List (List ℕ)) → Each (λ (members : List ℕ). Each (λ i. i < nodes) members) groups →
+    Each (IsTask nodes) (flat_map group_tasks groups)
 groups_are_tasks nodes [] h = tt
 groups_are_tasks nodes (members ∷ groups) h =
     Each-append (IsTask nodes) (group_tasks members) (flat_map group_tasks groups) (group_is_tasks nodes members h.0) (groups_are_tasks nodes groups h.1)
@@ -164,7 +167,8 @@ deliveries-append : (xs ys : List Task) → deliveries_in (xs ++ ys) ≡ deliver
 deliveries-append [] ys = sym (zero-add (deliveries_in ys))
 deliveries-append (x ∷ xs) ys = let more = deliveries-append xs ys in omega arith
 
-groups_few : (xs : List ℕ) → (deliveries_in (flat_map group_tasks (in_threes xs)) ≤ 2680 * length xs + 1360) × (length (flat_map group_tasks (in_threes xs)) ≤ 11 * length xs)
+groups_few : (xs : List ℕ) → (deliveries_in (flat_map group_tasks (in_threes xs)) ≤ 2680 * length xs + 1360)
+    × (length (flat_map group_tasks (in_threes xs)) ≤ 11 * length xs)
 groups_few [] = (omega arith, omega arith)
 groups_few (a ∷ []) = (omega arith, omega arith)
 groups_few (a ∷ b ∷ []) = (omega arith, omega arith)
@@ -172,7 +176,8 @@ groups_few (a ∷ b ∷ c ∷ more) =
     let rest = groups_few more in let few = rest.0 in let short = rest.1 in
     (omega arith, omega arith)
 
-fetches_few : (nodes : ℕ) (files : List ℕ) → (deliveries_in (flat_map (fetch_tasks nodes) files) ≡ 2000 * length files) × (length (flat_map (fetch_tasks nodes) files) ≡ 2 * length files)
+fetches_few : (nodes : ℕ) (files : List ℕ) →
+    (deliveries_in (flat_map (fetch_tasks nodes) files) ≡ 2000 * length files) × (length (flat_map (fetch_tasks nodes) files) ≡ 2 * length files)
 fetches_few nodes [] = (omega arith, omega arith)
 fetches_few nodes (j ∷ files) = let rest = fetches_few nodes files in let few = rest.0 in let short = rest.1 in (omega arith, omega arith)
 
@@ -207,8 +212,10 @@ follows_behind nodes files tally [] y ys h = h.0
 follows_behind nodes files tally (x ∷ xs) y ys h = follows_behind nodes files (tallied tally x.what) xs y ys h.1
 
 -- node 0 may become the founder of the nodes, where there is none
-pub may_found : (nodes seed : ℕ) (draft : Draft) (id : ℕ) → 0 < nodes → draft.founder ≡ None → draft.nodes ≡ node_lines nodes seed → id ≡ node_id seed 0 → MayFound draft id
+pub may_found : (nodes seed : ℕ) (draft : Draft) (id : ℕ) → 0 < nodes → draft.founder ≡ None → draft.nodes ≡ node_lines nodes seed → id ≡ node_id seed 0 →
+    MayFound draft id
 may_found nodes seed draft id some none lines is = record {
   first = subst (λ founder. IsNone founder) (sym none) refl;
-  declared = subst (λ node. Contains (ids draft.nodes) node) (sym is) (subst (λ all. Contains (ids all) (node_id seed 0)) (sym lines) (node_there nodes seed 0 some));
+  declared = subst (λ node. Contains (ids draft.nodes) node) (sym is)
+      (subst (λ all. Contains (ids all) (node_id seed 0)) (sym lines) (node_there nodes seed 0 some));
 }

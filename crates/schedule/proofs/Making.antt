@@ -24,7 +24,8 @@ pub file_is : (j : ℕ) (salt words file name owner salted bytes : List ℕ) →
     owner ≡ [] → salted ≡ bytes_of salt → bytes ≡ bytes_of words → record { file = file; bytes = bytes } ≡ file_from j salt words
 unfolding file_from
 file_is j salt words file name owner salted bytes is named none salting filled =
-    ap (λ f. record { file = f; bytes = bytes }) (is ∙ ap (λ n. file_of n owner salted) named ∙ ap (λ o. file_of (file_name j) o salted) none ∙ ap (λ s. file_of (file_name j) [] s) salting) ∙
+    ap (λ f. record { file = f; bytes = bytes })
+    (is ∙ ap (λ n. file_of n owner salted) named ∙ ap (λ o. file_of (file_name j) o salted) none ∙ ap (λ s. file_of (file_name j) [] s) salting) ∙
     ap (λ bs. record { file = file_of (file_name j) [] (bytes_of salt); bytes = bs }) filled
 
 -- the identifier that a seed's generator gives at a node's first word
@@ -33,7 +34,8 @@ unfolding node_id
 node_made seed node id g at few is =
     is ∙ ap (λ h. id_from node (words_to_come h 4)) at ∙ ap (λ ws. id_from node ws) (words_are seed (4 * node) 4 (omega arith))
 
-pub node_after : (seed node : ℕ) (g next : ChaCha) → g ≡ generator_at seed (4 * node) → node < 256 → next ≡ generator_after g 4 → next ≡ generator_at seed (4 * (node + 1))
+pub node_after : (seed node : ℕ) (g next : ChaCha) → g ≡ generator_at seed (4 * node) → node < 256 → next ≡ generator_after g 4 →
+    next ≡ generator_at seed (4 * (node + 1))
 node_after seed node g next at few is =
     is ∙ ap (λ h. generator_after h 4) at ∙ seed_after seed (4 * node) 4 (omega arith) ∙ ap (λ t. generator_at seed t) same
   where
@@ -46,7 +48,8 @@ pub file_made : (nodes seed j : ℕ) (file : MadeFile) (g : ChaCha) → g ≡ ge
 unfolding made_file
 file_made nodes seed j file g at few low is =
     is ∙ ap (λ h. file_from j (words_to_come h 2) (words_to_come (generator_after h 2) 16)) at ∙
-    ap (λ ws. file_from j ws (words_to_come (generator_after (generator_at seed (file_word nodes j)) 2) 16)) (words_are seed (file_word nodes j) 2 (omega arith)) ∙
+    ap (λ ws. file_from j ws (words_to_come (generator_after (generator_at seed (file_word nodes j)) 2) 16))
+    (words_are seed (file_word nodes j) 2 (omega arith)) ∙
     ap (λ h. file_from j (words_from seed (file_word nodes j) 2) (words_to_come h 16)) (seed_after seed (file_word nodes j) 2 (omega arith)) ∙
     ap (λ ws. file_from j (words_from seed (file_word nodes j) 2) ws) (words_are seed (file_word nodes j + 2) 16 (omega arith))
 

@@ -1,5 +1,6 @@
 -- Names and identifiers of a made scenario: how they are spelled, and that they differ.
-use Rattle.std.proofs.Common.{◌≡◌, ◌≢◌, ◌<◌, ◌≤◌, ℕ, zero, suc, ◌+◌, ◌-◌, ◌*◌, ◌%◌, ◌^◌, true, IsTrue, List, [], ◌∷◌, ◌++◌, length, drop, decimal, All, map, get_or, refl, sym, subst, ap, ◌∙◌, zero-add, le-leb, arith}
+use Rattle.std.proofs.Common.{◌≡◌, ◌≢◌, ◌<◌, ◌≤◌, ℕ, zero, suc, ◌+◌, ◌-◌, ◌*◌, ◌%◌, ◌^◌, true, IsTrue, List, [], ◌∷◌, ◌++◌, length, drop, decimal, All, map}
+use Rattle.std.proofs.Common.{get_or, refl, sym, subst, ap, ◌∙◌, zero-add, le-leb, arith}
 use Rattle.std.specs.List.{range_with_len}
 use Rattle.std.specs.Char.{digit_value}
 use Rattle.std.specs.List.{list_all}
@@ -99,7 +100,8 @@ id_tells seed i j hi hj e = odd i j hi hj first
     first : 256 * 0 + i * 167 % 256 ≡ 256 * 0 + j * 167 % 256
     first =
         first_tells (drop 1 (bytes_of (words_from seed (4 * i) 4))) (drop 1 (bytes_of (words_from seed (4 * j) 4))) _ _
-        (size (4 * i) ∙ sym (size (4 * j))) (behind_first _ (words_are_bytes (words_from seed (4 * i) 4))) (behind_first _ (words_are_bytes (words_from seed (4 * j) 4))) e
+        (size (4 * i) ∙ sym (size (4 * j))) (behind_first _ (words_are_bytes (words_from seed (4 * i) 4)))
+        (behind_first _ (words_are_bytes (words_from seed (4 * j) 4))) e
 
     odd : (i j : ℕ) → i < 256 → j < 256 → 256 * 0 + i * 167 % 256 ≡ 256 * 0 + j * 167 % 256 → i ≡ j
     odd i j hi hj e = omega arith
@@ -152,7 +154,8 @@ node_added seed i first now next node at is same =
     is ∙ ap (λ d. with_node d node) at ∙ ap (λ n. record first { nodes = map (node_line seed) (range_with_len 0 i) ++ n ∷ [] }) same ∙
     ap (λ ns. record first { nodes = ns }) (sym (map-range_with_len_more (node_line seed) 0 i i (zero-add i)))
 
-pub file_added : (nodes seed j : ℕ) (first now next : Draft) (file : FileLine) → now ≡ record first { files = map (file_line nodes seed) (range_with_len 0 j) } →
+pub file_added : (nodes seed j : ℕ) (first now next : Draft) (file : FileLine) →
+    now ≡ record first { files = map (file_line nodes seed) (range_with_len 0 j) } →
     next ≡ with_file now file → file ≡ file_line nodes seed j → next ≡ record first { files = map (file_line nodes seed) (range_with_len 0 (j + 1)) }
 file_added nodes seed j first now next file at is same =
     is ∙ ap (λ d. with_file d file) at ∙ ap (λ f. record first { files = map (file_line nodes seed) (range_with_len 0 j) ++ f ∷ [] }) same ∙

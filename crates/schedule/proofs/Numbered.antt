@@ -24,11 +24,20 @@ pub record IsEventAt (actions : List Action) (place : ℕ) (step : Step) : Type 
 pub event_at : (actions : List Action) (place : ℕ) (step : Step) → step_of actions (turn.Action place) ≡ Some step → IsEventAt actions place step
 event_at actions place step h = found (slice_get actions place) refl h
   where
-    of : (action : Action) (v : Option Event) → slice_get actions place ≡ Some action → event_of action.what ≡ v → option_map Happens v ≡ Some step → IsEventAt actions place step
+    of : (action : Action) (v : Option Event) → slice_get actions place ≡ Some action → event_of action.what ≡ v → option_map Happens v ≡ Some step →
+        IsEventAt actions place step
     of action None there is e = absurd (let nothing : None ≡ Some step = e in cc)
-    of action (Some v) there is e = record { action = action; there = there; event = v; of_action = is; happens = let same : Some (Happens v) ≡ Some step = e in cc }
+    of action (Some v) there is e = record {
+      action = action;
+      there = there;
+      event = v;
+      of_action = is;
+      happens = let same : Some (Happens v) ≡ Some step = e in
+          cc;
+    }
 
-    found : (a : Option Action) → slice_get actions place ≡ a → option_map Happens (option_and_then (λ (action : Action). event_of action.what) a) ≡ Some step → IsEventAt actions place step
+    found : (a : Option Action) → slice_get actions place ≡ a → option_map Happens (option_and_then (λ (action : Action). event_of action.what) a) ≡ Some step →
+        IsEventAt actions place step
     found None there e = absurd (let nothing : None ≡ Some step = e in cc)
     found (Some action) there e = of action (event_of action.what) there refl e
 

@@ -1,5 +1,6 @@
 -- The action at a cursor's place, and the turn that it is.
-use Rattle.std.proofs.Common.{◌≡◌, ◌<◌, ◌≤◌, ℕ, zero, suc, Option, Some, None, List, [], ◌∷◌, ◌++◌, length, drop, slice_index_or, option_map, IsNone, refl, sym, subst, ap, ◌∙◌, arith}
+use Rattle.std.proofs.Common.{◌≡◌, ◌<◌, ◌≤◌, ℕ, zero, suc, Option, Some, None, List, [], ◌∷◌, ◌++◌, length, drop, slice_index_or, option_map, IsNone, refl, sym}
+use Rattle.std.proofs.Common.{subst, ap, ◌∙◌, arith}
 use Rattle.scenario_reader.specs.declared.action.Action.{Action}
 use Rattle.scenario_reader.specs.declared.action.What.{What}
 use Rattle.scenario_reader.specs.declared.action.What.TheVariants as what
@@ -33,7 +34,8 @@ copies_at nodes files tally (action ∷ actions) (suc place) d rules h =
     copies_at nodes files (tallied tally action.what) actions place d rules.1 (omega arith)
 
 -- a turn that has its meaning without any action names none
-pub at_place : (old new : Spot) (t : Turn) (step : Step) → ((actions : List Action) → step_of actions t ≡ Some step) → old.place ≤ new.place → IsAtPlace old new t
+pub at_place : (old new : Spot) (t : Turn) (step : Step) → ((actions : List Action) → step_of actions t ≡ Some step) → old.place ≤ new.place →
+    IsAtPlace old new t
 at_place old new (turn.Action place) step h le = absurd (nothing (h []))
   where
     nothing : None ≡ Some step → ⊥

@@ -41,7 +41,8 @@ pub joins_more : (before now next : List Task) (a k : ℕ) → a ≤ k →
     next ≡ before ++ map (λ node. Join node) (range_with_len a (k + 1 - a))
 joins_more before now next a k h at is =
     is ∙ ap (λ ts. ts ++ Join k ∷ []) at ∙ append_assoc before (map (λ node. Join node) (range_with_len a (k - a))) (Join k ∷ []) ∙
-    ap (λ ts. before ++ ts) (sym (map-append (λ node. Join node) (range_with_len a (k - a)) (k ∷ [])) ∙ ap (λ ns. map (λ node. Join node) ns) (sym (range_to a k h)))
+    ap (λ ts. before ++ ts) (sym (map-append (λ node. Join node) (range_with_len a (k - a)) (k ∷ []))
+    ∙ ap (λ ns. map (λ node. Join node) ns) (sym (range_to a k h)))
 
 -- the same of the numbers from 0 on
 pub tasks_counted : (f : ℕ → List Task) (before now next : List Task) (k : ℕ) →
@@ -71,7 +72,8 @@ first_group first nodes end h is = by (nodes - first) refl
     last n size few one =
         let none : 0 ≡ nodes - end = omega arith in
         let whole : n ≡ end - first = omega arith in
-        one ∙ ap (λ k. range_with_len first n ∷ in_threes (range_with_len end k)) none ∙ ap (λ k. range_with_len first k ∷ in_threes (range_with_len end (nodes - end))) whole
+        one ∙ ap (λ k. range_with_len first n ∷ in_threes (range_with_len end k)) none
+        ∙ ap (λ k. range_with_len first k ∷ in_threes (range_with_len end (nodes - end))) whole
 
     by : (n : ℕ) → nodes - first ≡ n → in_threes (range_with_len first n) ≡ range_with_len first (end - first) ∷ in_threes (range_with_len end (nodes - end))
     by zero size = absurd (omega arith)

@@ -1,8 +1,10 @@
 -- A play turn by turn is the play of its schedule.
-use Rattle.std.proofs.Common.{◌≡◌, ℕ, zero, suc, ◌+◌, Bool, true, false, nat_lt, if◌then◌else◌, Option, Some, None, List, [], ◌∷◌, length, refl, sym, ap, ◌∙◌, arith}
+use Rattle.std.proofs.Common.{◌≡◌, ℕ, zero, suc, ◌+◌, Bool, true, false, nat_lt, if◌then◌else◌, Option, Some, None, List, [], ◌∷◌, length, refl, sym, ap, ◌∙◌}
+use Rattle.std.proofs.Common.{arith}
 use Rattle.overlay_rules.specs.declared.entry.Event.TheVariants as event
 use Rattle.overlay_rules.specs.Record.{sent_in}
-use Rattle.overlay_rules.specs.Played.{Action as Act, Command, Settle, Deliver, Shuffle, Dup, Noise, Play, happened, oldest_undelivered, delivered_oldest, settled, in_world, delivered_once, drawn, acted_all, play_at_start}
+use Rattle.overlay_rules.specs.Played.{Action as Act, Command, Settle, Deliver, Shuffle, Dup, Noise, Play, happened, oldest_undelivered, delivered_oldest}
+use Rattle.overlay_rules.specs.Played.{settled, in_world, delivered_once, drawn, acted_all, play_at_start}
 use Rattle.scenario_reader.specs.Plain.{PlainScenario}
 use Rattle.schedule.specs.Cursors.{Spot, spot_at_start, left_at, turn_at}
 use Rattle.schedule.specs.Playing.{PlaysOn, IsPlayedTo}
@@ -106,7 +108,8 @@ played_whole s spot p sent oldest is_sent is_oldest ends h = (ap (λ (q : Play).
 
     whole : record { world = p.world; copies = (turn_at s.actions spot sent oldest).copies; skipped = p.skipped } ≡ play_of s
     whole =
-        ap (λ step. record { world = world_after step p.world; copies = (turn_at s.actions spot sent oldest).copies; skipped = skipped_after step p.skipped }) (sym ends) ∙
+        ap (λ step. record { world = world_after step p.world; copies = (turn_at s.actions spot sent oldest).copies; skipped = skipped_after step p.skipped })
+        (sym ends) ∙
         ap (λ acts. acted_all acts (play_after (turn_at s.actions spot sent oldest) p)) (sym (ended (left_at s.actions spot) spot.copies sent oldest ends)) ∙
         ap (λ (t : Turned). acted_all t.left (play_after t p)) (sym same) ∙
         sym (plays_on (left_at s.actions spot) p) ∙ h.ends

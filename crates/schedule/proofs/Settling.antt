@@ -1,10 +1,12 @@
 -- Deliveries of a settle: what they are as single deliveries, and where they do nothing.
-use Rattle.std.proofs.Common.{◌≡◌, ◌<◌, ◌≤◌, ℕ, zero, suc, ◌+◌, Bool, true, false, nat_lt, if◌then◌else◌, Option, Some, None, List, ◌++◌, length, replicate, refl, ap, ◌∙◌, arith, length-append}
+use Rattle.std.proofs.Common.{◌≡◌, ◌<◌, ◌≤◌, ℕ, zero, suc, ◌+◌, Bool, true, false, nat_lt, if◌then◌else◌, Option, Some, None, List, ◌++◌, length, replicate}
+use Rattle.std.proofs.Common.{refl, ap, ◌∙◌, arith, length-append}
 use Rattle.std.proofs.lemmas.Bool.Decides.{nat_tests}
 use Rattle.overlay_rules.specs.declared.entry.Event.{Event}
 use Rattle.overlay_rules.specs.declared.entry.Event.TheVariants as event
 use Rattle.overlay_rules.specs.Record.{World, sent_in}
-use Rattle.overlay_rules.specs.Played.{Action as Act, Deliver, Play, entry_of, happened, was_delivered, oldest_undelivered, undelivered_from, delivered, delivered_oldest, settled, in_world, delivered_once, acted_all}
+use Rattle.overlay_rules.specs.Played.{Action as Act, Deliver, Play, entry_of, happened, was_delivered, oldest_undelivered, undelivered_from, delivered}
+use Rattle.overlay_rules.specs.Played.{delivered_oldest, settled, in_world, delivered_once, acted_all}
 use Rattle.overlay_rules.proofs.Histories.{sent_in-push}
 
 -- how many messages were sent

@@ -1,5 +1,6 @@
 -- The turns of an action that has begun.
-use Rattle.std.proofs.Common.{◌≡◌, ◌<◌, ◌≤◌, ℕ, zero, suc, ◌+◌, ◌-◌, ◌^◌, ◌%◌, Option, Some, None, List, [], ◌∷◌, ◌++◌, replicate, refl, sym, subst, ap, ◌∙◌, ◌⊎◌, inl, inr, arith, append_assoc}
+use Rattle.std.proofs.Common.{◌≡◌, ◌<◌, ◌≤◌, ℕ, zero, suc, ◌+◌, ◌-◌, ◌^◌, ◌%◌, Option, Some, None, List, [], ◌∷◌, ◌++◌, replicate, refl, sym, subst, ap, ◌∙◌}
+use Rattle.std.proofs.Common.{◌⊎◌, inl, inr, arith, append_assoc}
 use Rattle.rand_chacha.specs.ChaCha.{ChaCha, next_word}
 use Rattle.overlay_rules.specs.declared.entry.Event.TheVariants as event
 use Rattle.overlay_rules.specs.Played.{Action as Act, Settle, Deliver, Shuffle, drawn}
@@ -42,13 +43,15 @@ gives_first : (m left copies sent o : ℕ) →
 gives_first m left copies sent o = record {
   step = Happens (event.Deliver o);
   means = λ actions. refl;
-  is = λ acts. ap (λ (front : List Act). record { step = Happens (event.Deliver o); left = front; copies = suc copies }) (sym (append_assoc (replicate copies (Deliver o)) (Settle left ∷ []) acts));
+  is = λ acts. ap (λ (front : List Act). record { step = Happens (event.Deliver o); left = front; copies = suc copies })
+      (sym (append_assoc (replicate copies (Deliver o)) (Settle left ∷ []) acts));
 }
 
 pub gives_oldest : (m again left copies sent o : ℕ) → again ≤ 0 → (left ≡ 0 → ⊥) → 1 ≤ copies →
     Gives (replicate again (Deliver m) ++ Settle left ∷ []) copies sent (Some o) (replicate (copies - 1) (Deliver o) ++ Settle (left - 1) ∷ []) (turn.Deliver o)
 gives_oldest m again left copies sent o none some copied =
-    subst (λ a. Gives (replicate a (Deliver m) ++ Settle left ∷ []) copies sent (Some o) (replicate (copies - 1) (Deliver o) ++ Settle (left - 1) ∷ []) (turn.Deliver o)) nothing
+    subst (λ a. Gives (replicate a (Deliver m) ++ Settle left ∷ []) copies sent (Some o) (replicate (copies - 1) (Deliver o) ++ Settle (left - 1) ∷ [])
+    (turn.Deliver o)) nothing
     (subst (λ n. Gives (Settle n ∷ []) copies sent (Some o) (replicate (copies - 1) (Deliver o) ++ Settle (left - 1) ∷ []) (turn.Deliver o)) more
     (subst (λ k. Gives (Settle (suc (left - 1)) ∷ []) k sent (Some o) (replicate (copies - 1) (Deliver o) ++ Settle (left - 1) ∷ []) (turn.Deliver o)) enough
     (gives_first m (left - 1) (copies - 1) sent o)))
@@ -71,7 +74,8 @@ settle_ends m zero (suc left) copies sent oldest none (inl h) acts = absurd (ome
 settle_ends m zero (suc left) copies sent oldest none (inr h) acts = rw h refl
 
 -- the next word of a shuffle
-pub gives_word : (g : ChaCha) (left word m copies sent : ℕ) (oldest : Option ℕ) (t : Turn) → (left ≡ 0 → ⊥) → word ≡ (next_word 4 g).0 → m ≡ drawn word sent → IsDelivery m sent t →
+pub gives_word : (g : ChaCha) (left word m copies sent : ℕ) (oldest : Option ℕ) (t : Turn) → (left ≡ 0 → ⊥) → word ≡ (next_word 4 g).0 → m ≡ drawn word sent →
+    IsDelivery m sent t →
     Gives (Shuffle (words_to_come g left) ∷ []) copies sent oldest (Shuffle (words_to_come (next_word 4 g).1 (left - 1)) ∷ []) t
 unfolding words_to_come
 gives_word g left word m copies sent oldest t some is at h =

@@ -9,6 +9,7 @@ use Rattle.scenario_reader.specs.declared.action.What.TheVariants as what
 use Rattle.scenario_reader.specs.declared.node.NodeLine.{NodeLine}
 use Rattle.scenario_reader.specs.declared.node.FileLine.{FileLine}
 use Rattle.scenario_reader.specs.Plain.{PlainScenario}
+use Rattle.schedule.specs.declared.task.TheConstants.{MADE_FILES}
 use Rattle.schedule.specs.declared.task.Task.{Task}
 use Rattle.schedule.specs.declared.task.Task.TheVariants.{Join, Insert, Fetch, Settle, Shuffle}
 use Rattle.schedule.specs.declared.file.MadeFile.{MadeFile}
@@ -52,7 +53,7 @@ abbrev pub node_lines : ℕ → ℕ → List NodeLine
 node_lines nodes seed = map (node_line seed) (range_with_len 0 nodes)
 
 abbrev pub file_lines : ℕ → ℕ → List FileLine
-file_lines nodes seed = map (file_line nodes seed) (range_with_len 0 20)
+file_lines nodes seed = map (file_line nodes seed) (range_with_len 0 MADE_FILES)
 
 -- what a task says, where a command has this number
 abbrev pub what_of : ℕ → ℕ → ℕ → Task → What
@@ -97,4 +98,4 @@ abbrev pub ids_made : Making → List ℕ
 ids_made m = map (node_id m.seed) (range_with_len 0 m.nodes)
 
 abbrev pub files_made : Making → List MadeFile
-files_made m = map (made_file m.nodes m.seed) (range_with_len 0 20)
+files_made m = map (made_file m.nodes m.seed) (range_with_len 0 MADE_FILES)

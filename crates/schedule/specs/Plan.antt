@@ -1,6 +1,9 @@
 -- What a made scenario does, line by line, in the numbers of its nodes and files.
 use Rattle.std.specs.Prelude.{ℕ, ◌+◌, ◌-◌, ◌%◌, ◌<◌, ◌≤◌, List, [], ◌∷◌, ◌++◌, map}
 use Rattle.std.specs.List.{flat_map, range_with_len}
+use Rattle.wire_msg.specs.declared.limits.TheConstants.{MOST_COPIES}
+use Rattle.scenario_reader.specs.declared.limits.TheConstants.{MOST_DELIVERIES}
+use Rattle.schedule.specs.declared.task.TheConstants.{MADE_FILES}
 use Rattle.schedule.specs.declared.task.Task.{Task}
 use Rattle.schedule.specs.declared.task.Task.TheVariants.{Join, Insert, Fetch, Settle, Shuffle}
 
@@ -31,12 +34,12 @@ join_plan nodes = flat_map group_tasks (in_threes (range_with_len 1 (nodes - 1))
 
 abbrev pub plan : ℕ → List Task
 plan nodes =
-    join_plan nodes ++ (flat_map insert_tasks (range_with_len 0 20) ++ flat_map (fetch_tasks nodes) (range_with_len 0 20))
+    join_plan nodes ++ (flat_map insert_tasks (range_with_len 0 MADE_FILES) ++ flat_map (fetch_tasks nodes) (range_with_len 0 MADE_FILES))
 
 -- a task of so many nodes
 abbrev pub IsTask : ℕ → Task → Type 0
 IsTask nodes (Join node) = node < nodes
-IsTask nodes (Insert file copies) = (file < 20) × (1 ≤ copies) × (copies ≤ 9)
-IsTask nodes (Fetch node file) = (node < nodes) × (file < 20)
-IsTask nodes (Settle count) = count ≤ 1000000
-IsTask nodes (Shuffle count) = count ≤ 1000000
+IsTask nodes (Insert file copies) = (file < MADE_FILES) × (1 ≤ copies) × (copies ≤ MOST_COPIES)
+IsTask nodes (Fetch node file) = (node < nodes) × (file < MADE_FILES)
+IsTask nodes (Settle count) = count ≤ MOST_DELIVERIES
+IsTask nodes (Shuffle count) = count ≤ MOST_DELIVERIES

@@ -1,12 +1,14 @@
 //! The nodes and files of a scenario that is made of random words.
 
 ghost use Rattle.std.specs.Prelude.{◌≡◌, ◌≤◌, ◌<◌, IfOk, OnOk};
+ghost use Rattle.scenario_reader.specs.declared.limits.TheConstants.{MOST_NODES};
+ghost use Rattle.wire_msg.specs.declared.limits.TheConstants.{MOST_COPIES};
 ghost use Rattle.schedule.specs.Made.{id_from, node_id, file_name, file_from, made_file, what_of};
 ghost use Rattle.schedule.specs.Plan.{IsTask};
 ghost use Rattle.schedule.specs.Words.{words_to_come, generator_after};
 
 use crate::file::{MadeFile, file_name};
-use crate::task::{FILES, Task};
+use crate::task::{MADE_FILES, Task};
 use crate::words::Words;
 use ring_math::{Bytes, Id, OutOfMemory, file_id};
 use scenario_reader::What;
@@ -24,6 +26,8 @@ pub(crate) struct Made {
 
 impl Model for Made {
     ghost use Rattle.std.specs.Prelude.{◌≡◌, length};
+    ghost use Rattle.scenario_reader.specs.declared.limits.TheConstants.{MOST_NODES};
+    ghost use Rattle.wire_msg.specs.declared.limits.TheConstants.{MOST_COPIES};
     ghost use Rattle.schedule.specs.Made.{Making, ids_made, files_made};
 
     ghost Value = { Making };
@@ -35,7 +39,7 @@ impl Model for Made {
 
 impl Made {
     pub(crate) fn new(alloc: Global, nodes: u32, seed: u64) -> Result<Made, OutOfMemory>
-        requires { nodes ≤ 256 }
+        requires { nodes ≤ MOST_NODES }
         ensures { IfOk result (λ made. made ≡ record { nodes = nodes; seed = seed }) }
     {
         let mut words = Words::new(seed);
@@ -44,7 +48,7 @@ impl Made {
             ids.push(make_id(&mut words, node))?;
         }
         let mut files = Vec::new(alloc);
-        for file in 0..FILES {
+        for file in 0..MADE_FILES {
             files.push(make_file(alloc, &mut words, file)?)?;
         }
         Ok(Made { seed, ids, files })
@@ -58,7 +62,7 @@ impl Made {
     }
 
     pub(crate) fn file(&self, file: u32) -> &MadeFile
-        requires { file < 20 }
+        requires { file < MADE_FILES }
         ensures { result.now ≡ made_file self.now.nodes self.now.seed file }
     {
         &self.files[file as usize]
@@ -91,9 +95,9 @@ impl Made {
     }
 
     fn insert(&self, alloc: Global, file: u32, copies: u8) -> Result<Command, OutOfMemory>
-        requires file { file < 20 }
+        requires file { file < MADE_FILES }
         requires some { 1 ≤ copies }
-        requires few { copies ≤ 9 }
+        requires few { copies ≤ MOST_COPIES }
         ensures { IfOk result (λ c. c ≡ Command.Insert (made_file self.now.nodes self.now.seed file).file copies (made_file self.now.nodes self.now.seed file).bytes) }
     {
         let made = self.file(file);
@@ -107,7 +111,7 @@ impl Made {
 
 /// The identifier of a node: the next four words, with a first byte that is no other node's.
 fn make_id(words: &mut Words, node: u32) -> Id
-    requires { node < 256 }
+    requires { node < MOST_NODES }
     ensures id { result ≡ id_from node (words_to_come words.old 4) }
     ensures after { words.new ≡ generator_after words.old 4 }
 {

@@ -2,6 +2,7 @@
 
 ghost use Rattle.std.specs.Prelude.{◌≡◌, ◌+◌, ◌-◌, ◌≤◌, ◌<◌, ◌^◌, ◌++◌, ◌∷◌, [], OnOk, IfOk};
 ghost use Rattle.std.specs.List.{range_with_len};
+ghost use Rattle.scenario_reader.specs.declared.limits.TheConstants.{MOST_NODES};
 ghost use Rattle.schedule.specs.declared.task.Task.TheVariants.{Fetch, Settle};
 ghost use Rattle.schedule.specs.Made.{number_after};
 ghost use Rattle.schedule.specs.Plan.{group_tasks, insert_tasks, plan};
@@ -13,7 +14,7 @@ use std::alloc::Global;
 const BUDGET: u32 = 2_000;
 
 /// How many files are inserted and fetched.
-pub(crate) const FILES: u32 = 20;
+pub(crate) const MADE_FILES: u32 = 20;
 
 /// A line, in the numbers of the nodes and files.
 #[derive(Clone, Copy)]
@@ -44,7 +45,7 @@ impl Task {
 /// The tasks of a scenario with so many nodes.
 pub(crate) fn plan(alloc: Global, nodes: u32) -> Result<Vec<Task>, OutOfMemory>
     requires some { 2 ≤ nodes }
-    requires few { nodes ≤ 256 }
+    requires few { nodes ≤ MOST_NODES }
     ensures { IfOk result (λ tasks. tasks.items ≡ plan nodes) }
 {
     let mut tasks = Vec::new(alloc);
@@ -54,10 +55,10 @@ pub(crate) fn plan(alloc: Global, nodes: u32) -> Result<Vec<Task>, OutOfMemory>
         plan_group(&mut tasks, first, end)?;
         first = end;
     }
-    for file in 0..FILES {
+    for file in 0..MADE_FILES {
         plan_insert(&mut tasks, file)?;
     }
-    for file in 0..FILES {
+    for file in 0..MADE_FILES {
         plan_fetch(&mut tasks, file % nodes, file)?;
     }
     Ok(tasks)

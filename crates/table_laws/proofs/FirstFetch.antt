@@ -1,5 +1,6 @@
 -- A record of one entry: the founder is told to fetch a file that nobody has, and answers that it is nowhere.
-use Rattle.std.proofs.Common.{◌≡◌, ◌<◌, ◌^◌, ℕ, List, [], ◌∷◌, refl, sym, subst, ◌∙◌, arith, rules}
+use Rattle.std.proofs.Common.{◌≡◌, List, [], ◌∷◌, refl, sym, subst, ◌∙◌, arith}
+use Rattle.ring_math.specs.Names.{FileId}
 use Rattle.ring_math.specs.Ring.{cw_of, is_between, is_nearer}
 use Rattle.coverage.specs.Coverage.{in_arcs}
 use Rattle.wire_msg.specs.declared.command.Command.TheVariants as command
@@ -10,11 +11,10 @@ use Rattle.wire_msg.specs.Words.{Envelope, FetchReply}
 use Rattle.overlay_rules.specs.declared.entry.Event.TheVariants as event
 use Rattle.overlay_rules.specs.declared.entry.Entry.{Entry}
 use Rattle.overlay_rules.specs.Outcome.{Command}
-use Rattle.overlay_rules.specs.Record.{IsSaidBy, IsRecord}
-use Rattle.overlay_rules.proofs.Each.{Each, Each-all}
-use Rattle.ring_laws.specs.Setting.{setting}
+use Rattle.overlay_rules.specs.Record.{Legal}
+use Rattle.step_facts.specs.Setting.{setting}
 
-abbrev pub fives : List ℕ
+abbrev pub fives : FileId
 fives = 5 ∷ 5 ∷ 5 ∷ 5 ∷ 5 ∷ 5 ∷ 5 ∷ 5 ∷ 5 ∷ 5 ∷ 5 ∷ 5 ∷ 5 ∷ 5 ∷ 5 ∷ 5 ∷ 5 ∷ 5 ∷ 5 ∷ 5 ∷ []
 
 abbrev pub answer : Envelope
@@ -23,28 +23,22 @@ answer = record { sender = 9; receiver = 9; stamp = 1; message = FetchReply 0 (r
 first : List Envelope → List Note → Entry
 first messages notes = record { event = event.Command 9 0 (command.Fetch fives); messages = messages; notes = notes }
 
-one_entry : IsRecord (setting (7 ∷ (9 ∷ [])) 9) (first (answer ∷ []) (note.Answered 9 0 (reply.NotFound 9) ∷ []) ∷ [])
+one_entry : Legal (setting (7 ∷ (9 ∷ [])) 9) (first (answer ∷ []) (note.Answered 9 0 (reply.NotFound 9) ∷ []) ∷ [])
 unfolding first cw_of is_between is_nearer in_arcs
-one_entry = record {
-  setting = record { in_ring = Each-all (λ x. x < 2 ^ 128) (7 ∷ (9 ∷ [])) (omega arith, (omega arith, tt)); differ = refl; founder = (1, omega arith, refl) };
-  said = Each-all (λ (e : Entry). IsSaidBy e.event) (first (answer ∷ []) (note.Answered 9 0 (reply.NotFound 9) ∷ []) ∷ [])
-      ((refl, Each-all (λ b. b < 256) fives five), tt);
-  legal = (
-    record {
-      at = record { node = 9; input = Command 0 (command.Fetch fives) };
-      is_at = refl;
-      member = (1, omega arith, refl);
-      fresh = λ k d lt. absurd (omega arith);
-      messages = refl;
-      notes = refl;
-    },
-    tt,
-  );
-} where
-  five : Each (λ b. b < 256) fives
-  five = search rules
+one_entry = (
+  record {
+    at = record { node = 9; input = Command 0 (command.Fetch fives) };
+    is_at = refl;
+    member = (1, omega arith, refl);
+    fresh = λ k d lt. absurd (omega arith);
+    messages = refl;
+    notes = refl;
+  },
+  tt,
+)
 
-pub founder_fetches : (es : List Entry) (messages : List Envelope) (notes : List Note) → messages ≡ answer ∷ [] → notes ≡ note.Answered 9 0 (reply.NotFound 9) ∷ [] →
-    es ≡ record { event = event.Command 9 0 (command.Fetch fives); messages = messages; notes = notes } ∷ [] → IsRecord (setting (7 ∷ (9 ∷ [])) 9) es
+pub founder_fetches : (es : List Entry) (messages : List Envelope) (notes : List Note) → messages ≡ answer ∷ [] →
+    notes ≡ note.Answered 9 0 (reply.NotFound 9) ∷ [] →
+    es ≡ record { event = event.Command 9 0 (command.Fetch fives); messages = messages; notes = notes } ∷ [] → Legal (setting (7 ∷ (9 ∷ [])) 9) es
 unfolding first
-founder_fetches es messages notes e f g = subst (IsRecord (setting (7 ∷ (9 ∷ [])) 9)) (sym (g ∙ (λ i. first (e i) (f i) ∷ []))) one_entry
+founder_fetches es messages notes e f g = subst (Legal (setting (7 ∷ (9 ∷ [])) 9)) (sym (g ∙ (λ i. first (e i) (f i) ∷ []))) one_entry

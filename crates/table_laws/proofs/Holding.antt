@@ -1,6 +1,8 @@
--- The invariant of every legal record on files: what is held, handed over and copied is what was accepted, what is a tombstone is Gone; the owner of a file holds it;
+-- The invariant of every legal record on files: what is held, handed over and copied is what was accepted, what is a tombstone is Gone; the owner of a file
+-- holds it;
 -- and the lists of a lease have each file that its node owns and its joiner will.
-use Rattle.std.proofs.Common.{◌≡◌, inl, inr, ◌≤◌, ◌<◌, ◌^◌, ℕ, Bool, true, false, Option, Some, None, List, ◌++◌, Contains, refl, sym, ap, ◌∙◌}
+use Rattle.std.proofs.Common.{◌≡◌, inl, inr, ◌≤◌, ◌<◌, ◌^◌, Bool, true, false, Option, Some, None, List, ◌++◌, Contains, refl, sym, ap, ◌∙◌}
+use Rattle.ring_math.specs.Names.{Id, FileId, Content}
 use Rattle.ring_math.specs.Ring.{is_nearer}
 use Rattle.ring_math.specs.Members.{IsClosest}
 use Rattle.ring_math.specs.Keys.{key_of}
@@ -8,26 +10,27 @@ use Rattle.ring_math.specs.Files.{Slot, slot_of}
 use Rattle.ring_math.specs.declared.file.Held.{Held}
 use Rattle.coverage.specs.GapFiles.{Lists}
 use Rattle.wire_msg.specs.declared.note.Note.{Note}
-use Rattle.wire_msg.specs.Words.{Message, Envelope, Lookup, LookupReply, Insert, InsertReply, Fetch, FetchReply, JoinRequest, JoinReply, JoinRefuse, Probe, ProbeReply, LeaseRequest, Grant, Deny, Handover, Release, Confirm, Announce, Replicate, ReplicaAck, Reclaim, ReclaimReply}
+use Rattle.wire_msg.specs.Words.{Message, Envelope, Lookup, LookupReply, Insert, InsertReply, Fetch, FetchReply, JoinRequest, JoinReply, JoinRefuse, Probe}
+use Rattle.wire_msg.specs.Words.{ProbeReply, LeaseRequest, Grant, Deny, Handover, Release, Confirm, Announce, Replicate, ReplicaAck, Reclaim, ReclaimReply}
 use Rattle.overlay_rules.specs.declared.entry.Entry.{Entry}
 use Rattle.overlay_rules.specs.State.{State, Lease, is_ready}
 use Rattle.overlay_rules.specs.Record.{Setting, World, IsSaidBy, sent_in}
 use Rattle.overlay_rules.specs.Table.{Kept, Nowhere, Keeps, Gone, notes_in, accepted_in, table_of}
 use Rattle.overlay_rules.proofs.Each.{Each, Each-weaker}
-use Rattle.ring_laws.proofs.Messages.{ReadyIn}
+use Rattle.step_facts.proofs.Messages.{ReadyIn}
 use Rattle.ring_laws.proofs.Leases.{lease_on}
 use Rattle.table_laws.proofs.Slots.{Lasts, Each-slot}
 use Rattle.table_laws.proofs.Tables.{is_reclaimed, acceptances, reclaims, accepted-more, gone-more, keeps_parts}
 
 -- bytes are the accepted ones, a tombstone is of what is Gone
-abbrev pub RightSlot : List Note → List ℕ → Slot → Type 0
+abbrev pub RightSlot : List Note → FileId → Slot → Type 0
 RightSlot ns f (Some b) = accepted_in f ns ≡ Some b
 RightSlot ns f None = table_of ns f ≡ Gone
 
 abbrev pub RightEntry : List Note → Held → Type 0
 RightEntry ns h = RightSlot ns h.file h.slot
 
-abbrev pub AllGone : List Note → List (List ℕ) → Type 0
+abbrev pub AllGone : List Note → List FileId → Type 0
 AllGone ns fs = Each (λ f. table_of ns f ≡ Gone) fs
 
 -- what stands for a file of the table
@@ -37,7 +40,7 @@ Stands (Keeps b) o = o ≡ Some (Some b)
 Stands Gone o = o ≡ Some None
 
 -- a file of the table is on one of the lists
-abbrev pub Listed : Kept → Lists → List ℕ → Type 0
+abbrev pub Listed : Kept → Lists → FileId → Type 0
 Listed Nowhere lists f = Unit {0}
 Listed (Keeps b) lists f = Contains lists.manifest f
 Listed Gone lists f = Contains lists.tombs f
@@ -91,33 +94,35 @@ Acked files Announce = Unit {0}
 Acked files (Reclaim origin number hops f) = Unit {0}
 Acked files (ReclaimReply number r) = Unit {0}
 
-pub record IsFiled (states : ℕ → State) (ns : List Note) (v : Envelope) : Type 0 where
+pub record IsFiled (states : Id → State) (ns : List Note) (v : Envelope) : Type 0 where
   pub right : MessageRight ns v.message
   pub acked : Acked (states v.sender).files v.message
 
 -- the owner of a file holds it
-abbrev pub OwnersHold : (ℕ → State) → List Note → Type 0
-OwnersHold states ns = (x : ℕ) (f : List ℕ) → key_of f < 2 ^ 128 → IsClosest (ReadyIn states) (key_of f) x → Stands (table_of ns f) (slot_of (states x).files f)
+abbrev pub OwnersHold : (Id → State) → List Note → Type 0
+OwnersHold states ns = (x : Id) (f : FileId) → key_of f < 2 ^ 128 → IsClosest (ReadyIn states) (key_of f) x →
+    Stands (table_of ns f) (slot_of (states x).files f)
 
 -- a file is closest to y, and the joiner of y's lease, who is not ready, is nearer
-pub record IsToGo (states : ℕ → State) (y : ℕ) (lease : Lease) (f : List ℕ) : Type 0 where
+pub record IsToGo (states : Id → State) (y : Id) (lease : Lease) (f : FileId) : Type 0 where
   pub unready : is_ready (states lease.gate.joiner).phase ≡ false
   pub bound : key_of f < 2 ^ 128
   pub closest : IsClosest (ReadyIn states) (key_of f) y
   pub nearer : is_nearer lease.gate.joiner y (key_of f) ≡ true
 
 -- the lists of a lease have each file that is to go to its joiner
-abbrev pub ListsHold : (ℕ → State) → List Note → Type 0
-ListsHold states ns = (y : ℕ) (right : Bool) (lease : Lease) (f : List ℕ) → lease_on right (states y) ≡ Some lease → IsToGo states y lease f → Listed (table_of ns f) lease.lists f
+abbrev pub ListsHold : (Id → State) → List Note → Type 0
+ListsHold states ns = (y : Id) (right : Bool) (lease : Lease) (f : FileId) → lease_on right (states y) ≡ Some lease → IsToGo states y lease f →
+    Listed (table_of ns f) lease.lists f
 
-pub record FilesIn (states : ℕ → State) (ns : List Note) : Type 0 where
-  pub entries : (y : ℕ) → Each (RightEntry ns) (states y).files
-  pub tombs : (y : ℕ) (right : Bool) (lease : Lease) → lease_on right (states y) ≡ Some lease → AllGone ns lease.lists.tombs
+pub record FilesIn (states : Id → State) (ns : List Note) : Type 0 where
+  pub entries : (y : Id) → Each (RightEntry ns) (states y).files
+  pub tombs : (y : Id) (right : Bool) (lease : Lease) → lease_on right (states y) ≡ Some lease → AllGone ns lease.lists.tombs
   pub owners : OwnersHold states ns
   pub lists : ListsHold states ns
-  pub bound : (f b : List ℕ) → accepted_in f ns ≡ Some b → key_of f < 2 ^ 128
-  pub reclaimed : (f : List ℕ) → is_reclaimed f ns ≡ true → (b : List ℕ) × (accepted_in f ns ≡ Some b)
-  pub once : (f : List ℕ) → (acceptances f ns ≤ 1) × (reclaims f ns ≤ 1)
+  pub bound : (f : FileId) (b : Content) → accepted_in f ns ≡ Some b → key_of f < 2 ^ 128
+  pub reclaimed : (f : FileId) → is_reclaimed f ns ≡ true → (b : Content) × (accepted_in f ns ≡ Some b)
+  pub once : (f : FileId) → (acceptances f ns ≤ 1) × (reclaims f ns ≤ 1)
 
 pub record FilesHold (g : Setting) (w : World) : Type 0 where
   pub said : Each (λ (e : Entry). IsSaidBy e.event) w.past
@@ -126,14 +131,14 @@ pub record FilesHold (g : Setting) (w : World) : Type 0 where
 
 -- ---- what lasts when there are more notes
 
-pub RightSlot-more : (ns ms : List Note) (f : List ℕ) (s : Slot) → RightSlot ns f s → RightSlot (ns ++ ms) f s
+pub RightSlot-more : (ns ms : List Note) (f : FileId) (s : Slot) → RightSlot ns f s → RightSlot (ns ++ ms) f s
 RightSlot-more ns ms f (Some b) h = accepted-more f b ns ms h
 RightSlot-more ns ms f None h = gone-more f ns ms h
 
 pub entries-more : (ns ms : List Note) (hs : List Held) → Each (RightEntry ns) hs → Each (RightEntry (ns ++ ms)) hs
 entries-more ns ms hs h = Each-weaker (RightEntry ns) (RightEntry (ns ++ ms)) hs (λ e r. RightSlot-more ns ms e.file e.slot r) h
 
-pub all_gone-more : (ns ms : List Note) (fs : List (List ℕ)) → AllGone ns fs → AllGone (ns ++ ms) fs
+pub all_gone-more : (ns ms : List Note) (fs : List FileId) → AllGone ns fs → AllGone (ns ++ ms) fs
 all_gone-more ns ms fs h = Each-weaker (λ f. table_of ns f ≡ Gone) (λ f. table_of (ns ++ ms) f ≡ Gone) fs (λ f e. gone-more f ns ms e) h
 
 pub MessageRight-more : (ns ms : List Note) (m : Message) → MessageRight ns m → MessageRight (ns ++ ms) m
@@ -149,7 +154,8 @@ Acked-lasts xs ys _ l h = tt
 -- ---- what stands for a file of the table
 
 -- bytes that stand for what the table keeps are the table's
-pub stands_kept : (ns : List Note) (f b : List ℕ) (hs : List Held) (s : Slot) → Each (RightEntry ns) hs → table_of ns f ≡ Keeps b → slot_of hs f ≡ Some s → slot_of hs f ≡ Some (Some b)
+pub stands_kept : (ns : List Note) (f : FileId) (b : Content) (hs : List Held) (s : Slot) → Each (RightEntry ns) hs → table_of ns f ≡ Keeps b →
+    slot_of hs f ≡ Some s → slot_of hs f ≡ Some (Some b)
 stands_kept ns f b hs (Some c) h e at =
     let held : accepted_in f ns ≡ Some c = Each-slot (RightEntry ns) hs f (Some c) h at in
     let kept = keeps_parts f b ns e in
@@ -157,7 +163,8 @@ stands_kept ns f b hs (Some c) h e at =
 stands_kept ns f b hs None h e at = let tomb : table_of ns f ≡ Gone = Each-slot (RightEntry ns) hs f None h at in cc
 
 -- what stood for a file of the table stands
-pub stands_on : (ns : List Note) (f : List ℕ) (xs ys : List Held) → Lasts xs ys → Each (RightEntry ns) ys → Stands (table_of ns f) (slot_of xs f) → Stands (table_of ns f) (slot_of ys f)
+pub stands_on : (ns : List Note) (f : FileId) (xs ys : List Held) → Lasts xs ys → Each (RightEntry ns) ys → Stands (table_of ns f) (slot_of xs f) →
+    Stands (table_of ns f) (slot_of ys f)
 stands_on ns f xs ys l h s = by (table_of ns f) refl s where
   by : (k : Kept) → table_of ns f ≡ k → Stands k (slot_of xs f) → Stands k (slot_of ys f)
   by Nowhere e s = tt

@@ -2,9 +2,9 @@
 #![tactic(auto)]
 
 ghost use Rattle.overlay_rules.specs.Laws.{OwnerHolds, HeldIsAccepted, NotedOnce, StoredStays, GoneIsReclaimed, ReclaimedIsLast};
-ghost use Rattle.overlay_rules.specs.Record.{IsRecord};
+ghost use Rattle.overlay_rules.specs.Record.{IsSetting, Legal};
 ghost use Rattle.overlay_rules.specs.Rightly.{NotesAreRight};
-ghost use Rattle.ring_laws.specs.Setting.{setting};
+ghost use Rattle.step_facts.specs.Setting.{setting};
 
 use overlay_rules::Entries;
 use ring_math::Id;
@@ -22,7 +22,8 @@ use ring_math::Id;
 /// A file once answered Stored is never afterwards answered NotFound, nor found with other bytes. Gone and Reclaimed are
 /// answered only of a file that was reclaimed, and after that nothing of it is found or stored.
 pub fn table_law(nodes: &[Id], founder: Id, entries: &Entries)
-    requires { IsRecord (setting nodes.now founder) entries.now }
+    requires setting { IsSetting (setting nodes.now founder) }
+    requires legal { Legal (setting nodes.now founder) entries.now }
     ensures notes_are_right { NotesAreRight (setting nodes.now founder) entries.now }
     ensures owner_holds { OwnerHolds (setting nodes.now founder) entries.now }
     ensures held_is_accepted { HeldIsAccepted (setting nodes.now founder) entries.now }
@@ -30,7 +31,9 @@ pub fn table_law(nodes: &[Id], founder: Id, entries: &Entries)
     ensures stored_stays { StoredStays entries.now }
     ensures gone_is_reclaimed { GoneIsReclaimed entries.now }
     ensures reclaimed_is_last { ReclaimedIsLast entries.now }
-{}
+{
+    entries.said_law();
+}
 
 #[cfg(test)]
 mod tests;

@@ -30,7 +30,8 @@ ids_taken (suc n) part len fits =
     let others = ids_taken n (drop 16 part) (omega (arith, length-drop 16 part)) (AreBytes-drop 16 part fits) in
     let back = wide128.back (take 16 part) (omega (arith, length-take 16 part)) here in
     record {
-      spelled = ap (λ (x : List ℕ). x ++ flat_map (to_be_bytes w128) (ids_of n (drop 16 part))) back ∙ ap (λ (x : List ℕ). take 16 part ++ x) others.spelled ∙ take-append-drop 16 part;
+      spelled = ap (λ (x : List ℕ). x ++ flat_map (to_be_bytes w128) (ids_of n (drop 16 part))) back ∙ ap (λ (x : List ℕ). take 16 part ++ x) others.spelled
+          ∙ take-append-drop 16 part;
       len = ap suc others.len;
       fit = (wide128.below (take 16 part) here, others.fit);
     }

@@ -23,7 +23,8 @@ decoded_read bytes k (Err f) fits pass given = tt
 
 pub decoded_spelled : (bytes : List ℕ) (k : Kind) (r : Result CodeEnvelope FrameFault) → AreBytes bytes → framing bytes ≡ Ok k → IsGiven bytes k r
     → (e : Envelope) → Spells bytes e → MatchResult r (λ x. plain_envelope x ≡ e) (λ f. f ≡ fault.OutOfMemory)
-decoded_spelled bytes k (Ok x) fits pass given e spells = one_envelope bytes (plain_envelope x) e (given_spells bytes k (plain_envelope x) fits pass given) spells
+decoded_spelled bytes k (Ok x) fits pass given e spells = one_envelope bytes (plain_envelope x) e
+    (given_spells bytes k (plain_envelope x) fits pass given) spells
 decoded_spelled bytes k (Err f) fits pass given e spells = given_or_memory bytes k f pass given
 
 memory_due : (f : FrameFault) (o : Option FrameFault) → f ≡ fault.OutOfMemory → o ≡ None → IsDue f o

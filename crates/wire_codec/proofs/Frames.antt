@@ -1,5 +1,6 @@
 -- A whole frame, both ways: what spells an envelope is read as it, and what is read as an envelope spells it.
-use Rattle.std.proofs.Common.{◌≡◌, ℕ, ◌+◌, ◌-◌, ◌<◌, ◌≤◌, ◌^◌, Bool, true, false, cond, eqb, ltb, List, [], ◌∷◌, ◌++◌, length, get_or, take, drop, Option, Some, None, Ok, Err, refl, sym, ap, subst, ◌∙◌, arith, eq-eqb}
+use Rattle.std.proofs.Common.{◌≡◌, ℕ, ◌+◌, ◌-◌, ◌<◌, ◌≤◌, ◌^◌, Bool, true, false, cond, eqb, ltb, List, [], ◌∷◌, ◌++◌, length, get_or, take, drop}
+use Rattle.std.proofs.Common.{Option, Some, None, Ok, Err, refl, sym, ap, subst, ◌∙◌, arith, eq-eqb}
 use Rattle.std.specs.Prelude.{find}
 use Rattle.std.specs.List.{flat_map, AllByRecursion}
 use Rattle.std.specs.Int.{w32, from_be_bytes, to_be_bytes}
@@ -37,7 +38,8 @@ version_again Two = refl
 
 version_taken : (byte : ℕ) (v : Version) → version_from byte ≡ Ok v → byte ≡ version_number v
 version_taken byte v e = version_by (eqb byte 1) (eqb byte 2) refl refl e where
-  version_by : (one two : Bool) → eqb byte 1 ≡ one → eqb byte 2 ≡ two → cond one (done One) (cond two (done Two) (Err (fault.Version byte))) ≡ Ok v → byte ≡ version_number v
+  version_by : (one two : Bool) → eqb byte 1 ≡ one → eqb byte 2 ≡ two → cond one (done One) (cond two (done Two) (Err (fault.Version byte))) ≡ Ok v →
+      byte ≡ version_number v
   version_by true two is_one is_two found = eqb-true byte 1 is_one ∙ ap version_number (ok_is One v found)
   version_by false true is_one is_two found = eqb-true byte 2 is_two ∙ ap version_number (ok_is Two v found)
   version_by false false is_one is_two found = absurd cc
@@ -81,7 +83,28 @@ found_in P test [] x all e = absurd cc
 found_in P test (y ∷ ys) x all e = found_by P test y x (test y) (find test ys) refl all.0 (found_in P test ys x all.1) e
 
 kinds_in : (v : Version) → AllByRecursion (λ k. v ≡ version_of k) (kinds v)
-kinds_in One = (refl, (refl, (refl, (refl, (refl, (refl, (refl, (refl, (refl, (refl, (refl, (refl, (refl, (refl, (refl, (refl, (refl, (refl, (refl, (refl, tt))))))))))))))))))))
+kinds_in One = (
+  refl,
+  (
+    refl,
+    (
+      refl,
+      (
+        refl,
+        (
+          refl,
+          (
+            refl,
+            (
+              refl,
+              (refl, (refl, (refl, (refl, (refl, (refl, (refl, (refl, (refl, (refl, (refl, (refl, (refl, tt))))))))))))),
+            ),
+          ),
+        ),
+      ),
+    ),
+  ),
+)
 kinds_in Two = (refl, (refl, (refl, (refl, (refl, (refl, tt))))))
 
 named : (v : Version) (byte : ℕ) (k : Kind) (o : Option Kind) → kind_or (fault.Kind byte) o ≡ Ok k → o ≡ Some k
@@ -90,7 +113,8 @@ named v byte k (Some j) e = ap (λ (i : Kind). Some i) (ok_is j k e)
 
 kind_taken : (v : Version) (byte : ℕ) (k : Kind) → kind_from v byte ≡ Ok k → (byte ≡ number_of k) × (v ≡ version_of k)
 kind_taken v byte k e =
-    let found = found_in (λ (j : Kind). v ≡ version_of j) (λ (j : Kind). eqb (number_of j) byte) (kinds v) k (kinds_in v) (named v byte k (numbered v byte) e) in
+    let found = found_in (λ (j : Kind). v ≡ version_of j) (λ (j : Kind). eqb (number_of j) byte) (kinds v) k (kinds_in v)
+    (named v byte k (numbered v byte) e) in
     (sym (eqb-true (number_of k) byte found.0), found.1)
 
 -- ---- the header
@@ -168,7 +192,8 @@ pub record IsFrameOf (bytes : List ℕ) (c : Contents) : Type 0 where
 
 pub reading_taken : (bytes : List ℕ) (c : Contents) → AreBytes bytes → reading bytes ≡ Ok c → IsFrameOf bytes c
 reading_taken bytes c fits e =
-    let ended : Kind → List Field × ℕ → Reading Contents = λ k found. cond (eqb found.1 (length bytes)) (done (record { kind = k; fields = found.0 })) (Err (fault.Range found.1)) in
+    let ended : Kind → List Field × ℕ → Reading Contents = λ k found. cond (eqb found.1 (length bytes)) (done (record { kind = k; fields = found.0 }))
+    (Err (fault.Range found.1)) in
     let read : Kind → Reading (List Field × ℕ) = λ k. fields_at bytes (Form.Id ▸ Form.Id ▸ Form.Number ▸ layout k) 6 in
     let b = bind_ok (header_of bytes) (λ k. read k >>= ended k) c e in
     let k = b.0 in
@@ -179,7 +204,8 @@ reading_taken bytes c fits e =
     let h = header_taken bytes k b.1 in
     let found = fields_taken bytes 6 (Form.Id ▸ Form.Id ▸ Form.Number ▸ layout k) d.0 fits h.long d.1 in
     let nothing : drop d.0.1 bytes ≡ [] = nil_from_length (drop d.0.1 bytes) (omega (arith, length-drop d.0.1 bytes, eqb-true _ _ t.0)) in
-    let rest : drop 6 bytes ≡ flat_map spelled fields = found.takes.parts ∙ ap (λ (r : List ℕ). flat_map spelled fields ++ r) nothing ∙ append-nil (flat_map spelled fields) in
+    let rest : drop 6 bytes ≡ flat_map spelled fields = found.takes.parts ∙ ap (λ (r : List ℕ). flat_map spelled fields ++ r) nothing
+    ∙ append-nil (flat_map spelled fields) in
     let stated = (number_takes w32 (2 ^ 32) wide32 bytes 2 (length bytes - 6) fits h.stated).0 in
     let size : length bytes - 6 ≡ length (flat_map spelled fields) = sym (length-drop 6 bytes) ∙ ap length rest in
     let tail : drop 2 bytes ≡ to_be_bytes w32 (length (flat_map spelled fields)) ++ flat_map spelled fields =

@@ -198,7 +198,8 @@ reply_in fields =
 abbrev message_in : Kind → List Field → Message
 message_in kind.Lookup fields = Message.Lookup (number_at fields 0) (number_at fields 1) (number_at fields 2) (number_at fields 3)
 message_in (kind.LookupReply v) fields = Message.LookupReply (number_at fields 0) (reply_in (drop 1 fields))
-message_in kind.Insert fields = Message.Insert (number_at fields 0) (number_at fields 1) (number_at fields 2) (list_at fields 3) (number_at fields 4) (list_at fields 5)
+message_in kind.Insert fields = Message.Insert (number_at fields 0) (number_at fields 1) (number_at fields 2) (list_at fields 3) (number_at fields 4)
+    (list_at fields 5)
 message_in (kind.InsertReply v) fields = Message.InsertReply (number_at fields 0) (reply_in (drop 1 fields))
 message_in kind.Fetch fields = Message.Fetch (number_at fields 0) (number_at fields 1) (number_at fields 2) (list_at fields 3)
 message_in (kind.FetchReply v) fields = Message.FetchReply (number_at fields 0) (reply_in (drop 1 fields))

@@ -109,7 +109,8 @@ wide64 = record {
 }
 
 -- a number of 16 bytes is made of two of 8
-halves_of : (bytes : List ℕ) → length bytes ≡ 16 → from_be_bytes w128 bytes ≡ from_be_bytes w64 (take 8 bytes) * 18446744073709551616 + from_be_bytes w64 (drop 8 bytes)
+halves_of : (bytes : List ℕ) → length bytes ≡ 16 → from_be_bytes w128 bytes ≡ from_be_bytes w64 (take 8 bytes) * 18446744073709551616 + from_be_bytes w64
+    (drop 8 bytes)
 halves_of bytes len =
     ap (from_be_bytes w128) (sym (take-append-drop 8 bytes))
     ∙ halves_read (take 8 bytes) (drop 8 bytes) (omega (arith, length-take 8 bytes)) (omega (arith, length-drop 8 bytes))
@@ -118,7 +119,8 @@ back_128 : (bytes : List ℕ) → length bytes ≡ 16 → AreBytes bytes → to_
 back_128 bytes len fits =
     let high_fits = AreBytes-take 8 bytes fits in
     let low_fits = AreBytes-drop 8 bytes fits in
-    halves_spelled (from_be_bytes w128 bytes) (from_be_bytes w64 (take 8 bytes)) (from_be_bytes w64 (drop 8 bytes)) (halves_of bytes len) (wide64.below (drop 8 bytes) low_fits) (wide64.below (take 8 bytes) high_fits)
+    halves_spelled (from_be_bytes w128 bytes) (from_be_bytes w64 (take 8 bytes)) (from_be_bytes w64 (drop 8 bytes)) (halves_of bytes len)
+    (wide64.below (drop 8 bytes) low_fits) (wide64.below (take 8 bytes) high_fits)
     ∙ ap (λ (x : List ℕ). x ++ to_be_bytes w64 (from_be_bytes w64 (drop 8 bytes))) (wide64.back (take 8 bytes) (omega (arith, length-take 8 bytes)) high_fits)
     ∙ ap (λ (x : List ℕ). take 8 bytes ++ x) (wide64.back (drop 8 bytes) (omega (arith, length-drop 8 bytes)) low_fits)
     ∙ take-append-drop 8 bytes

@@ -1,5 +1,6 @@
 -- What stands from a place on: a part that stands there is read, and a part that was read stands there.
-use Rattle.std.proofs.Common.{◌≡◌, ℕ, ◌+◌, ◌<◌, ◌≤◌, Bool, true, false, cond, ltb, List, ◌++◌, length, take, drop, Ok, Err, refl, sym, ap, subst, ◌∙◌, append_assoc, arith}
+use Rattle.std.proofs.Common.{◌≡◌, ℕ, ◌+◌, ◌<◌, ◌≤◌, Bool, true, false, cond, ltb, List, ◌++◌, length, take, drop, Ok, Err, refl, sym, ap, subst, ◌∙◌}
+use Rattle.std.proofs.Common.{append_assoc, arith}
 use Rattle.std.specs.Prelude.{nat_le, ◌&&◌}
 use Rattle.std.specs.Int.{Width, byte_len, from_be_bytes, to_be_bytes}
 use Rattle.std.proofs.lemmas.Bool.{ltb-false, le-ltb, le-leb, leb-true}
@@ -126,4 +127,5 @@ within_takes w limit wide bytes lowest highest place n fits e =
     let test = refused_if_not (nat_le lowest b.0 && nat_le b.0 highest) (fault.Range place) b.0 n b.2 in
     let taken = number_takes w limit wide bytes place b.0 fits b.1 in
     let range : (lowest ≤ b.0) × (b.0 ≤ highest) = in_range lowest b.0 highest test.0 in
-    subst (λ (k : ℕ). Takes bytes place (to_be_bytes w k) (place + byte_len w) × (k < limit) × (lowest ≤ k) × (k ≤ highest)) test.1 (taken.0, taken.1, range.0, range.1)
+    subst (λ (k : ℕ). Takes bytes place (to_be_bytes w k) (place + byte_len w) × (k < limit) × (lowest ≤ k) × (k ≤ highest)) test.1
+    (taken.0, taken.1, range.0, range.1)

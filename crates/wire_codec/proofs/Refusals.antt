@@ -1,7 +1,10 @@
 -- Reading refuses bytes for what they are, and never for want of memory.
-use Rattle.std.proofs.Common.{◌≡◌, ℕ, ◌+◌, ◌-◌, ◌*◌, Bool, true, false, cond, eqb, ltb, List, ◌∷◌, length, take, drop, get_or, Option, Some, None, Ok, Err, refl, ap, sym, subst, ◌∙◌, ◌≢◌}
+use Rattle.std.proofs.Common.{◌≡◌, ℕ, ◌+◌, ◌-◌, ◌*◌, Bool, true, false, cond, eqb, ltb, List, ◌∷◌, length, take, drop, get_or, Option, Some, None, Ok}
+use Rattle.std.proofs.Common.{Err, refl, ap, sym, subst, ◌∙◌, ◌≢◌}
 use Rattle.std.specs.Prelude.{nat_le, ◌&&◌}
 use Rattle.std.specs.Int.{Width, w8, w16, w32, w64, w128, byte_len, from_be_bytes}
+use Rattle.ring_math.specs.declared.limits.TheConstants.{MOST_BYTES, MOST_ENTRIES, MOST_MEMBERS}
+use Rattle.wire_msg.specs.declared.limits.TheConstants.{MOST_COPIES}
 use Rattle.wire_msg.specs.Words.{Envelope}
 use Rattle.wire_codec.specs.declared.fault.FrameFault.{FrameFault}
 use Rattle.wire_codec.specs.declared.fault.FrameFault.TheVariants as fault
@@ -11,7 +14,8 @@ use Rattle.wire_codec.specs.Fields.{Field, AreBytes}
 use Rattle.wire_codec.specs.Kinds.{kind_of}
 use Rattle.wire_codec.specs.Layouts.{Form, Layout, end, ◌▸◌, tagged, layout}
 use Rattle.wire_codec.specs.Spelling.{Contents, contents_of, Spells}
-use Rattle.wire_codec.specs.Reading.{◌>>=◌, Reading, part_at, number_at, number_within, field_at, walk, version_from, numbered, kind_or, kind_from, header_of, framing, refusal_in, refusal, IsDue}
+use Rattle.wire_codec.specs.Reading.{◌>>=◌, Reading, part_at, number_at, number_within, field_at, walk, version_from, numbered, kind_or, kind_from}
+use Rattle.wire_codec.specs.Reading.{header_of, framing, refusal_in, refusal, IsDue}
 use Rattle.wire_codec.specs.Values.{values_at, envelope_at}
 use Rattle.wire_codec.proofs.Spans.{fields_at, reading, whole_layout, says, values_is, framing_is}
 use Rattle.wire_codec.proofs.Places.{bind_ok, ok_is, refused_if_not}
@@ -38,7 +42,8 @@ part_refuses : (bytes : List ℕ) (place n : ℕ) → RefusesBytes (part_at byte
 part_refuses bytes place n = choice_refuses (ltb (length bytes) (place + n)) (Err (fault.Short (place + n))) (Ok (take n (drop place bytes))) tt tt
 
 number_refuses : (bytes : List ℕ) (w : Width) (place : ℕ) → RefusesBytes (number_at bytes w place)
-number_refuses bytes w place = then_refuses (part_at bytes place (byte_len w)) (λ part. Ok (from_be_bytes w part)) (part_refuses bytes place (byte_len w)) (λ part. tt)
+number_refuses bytes w place = then_refuses (part_at bytes place (byte_len w)) (λ part. Ok (from_be_bytes w part)) (part_refuses bytes place (byte_len w))
+    (λ part. tt)
 
 within_refuses : (bytes : List ℕ) (w : Width) (lowest highest place : ℕ) → RefusesBytes (number_within bytes w lowest highest place)
 within_refuses bytes w lowest highest place =
@@ -51,25 +56,26 @@ field_refuses bytes Form.File place = then_refuses (part_at bytes place 20) _ (p
 field_refuses bytes Form.Number place = then_refuses (number_at bytes w64 place) _ (number_refuses bytes w64 place) (λ n. tt)
 field_refuses bytes Form.Attempt place = then_refuses (number_at bytes w32 place) _ (number_refuses bytes w32 place) (λ n. tt)
 field_refuses bytes Form.Hops place = then_refuses (number_at bytes w16 place) _ (number_refuses bytes w16 place) (λ n. tt)
-field_refuses bytes Form.Copies place = then_refuses (number_within bytes w8 1 9 place) _ (within_refuses bytes w8 1 9 place) (λ n. tt)
+field_refuses bytes Form.Copies place = then_refuses (number_within bytes w8 1 MOST_COPIES place) _ (within_refuses bytes w8 1 MOST_COPIES place) (λ n. tt)
 field_refuses bytes Form.Bytes place =
-    then_refuses (number_within bytes w16 0 4096 place) _ (within_refuses bytes w16 0 4096 place)
+    then_refuses (number_within bytes w16 0 MOST_BYTES place) _ (within_refuses bytes w16 0 MOST_BYTES place)
     (λ n. then_refuses (part_at bytes (place + 2) n) _ (part_refuses bytes (place + 2) n) (λ part. tt))
 field_refuses bytes Form.Ids place =
-    then_refuses (number_within bytes w8 0 17 place) _ (within_refuses bytes w8 0 17 place)
+    then_refuses (number_within bytes w8 0 MOST_MEMBERS place) _ (within_refuses bytes w8 0 MOST_MEMBERS place)
     (λ n. then_refuses (part_at bytes (place + 1) (16 * n)) _ (part_refuses bytes (place + 1) (16 * n)) (λ part. tt))
 field_refuses bytes Form.Files place =
-    then_refuses (number_within bytes w16 0 4096 place) _ (within_refuses bytes w16 0 4096 place)
+    then_refuses (number_within bytes w16 0 MOST_ENTRIES place) _ (within_refuses bytes w16 0 MOST_ENTRIES place)
     (λ n. then_refuses (part_at bytes (place + 2) (20 * n)) _ (part_refuses bytes (place + 2) (20 * n)) (λ part. tt))
 field_refuses bytes Form.Tombs place =
-    then_refuses (number_within bytes w16 1 4096 place) _ (within_refuses bytes w16 1 4096 place)
+    then_refuses (number_within bytes w16 1 MOST_ENTRIES place) _ (within_refuses bytes w16 1 MOST_ENTRIES place)
     (λ n. then_refuses (part_at bytes (place + 2) (20 * n)) _ (part_refuses bytes (place + 2) (20 * n)) (λ part. tt))
 
 walk_refuses : (bytes : List ℕ) (l : Layout) (place : ℕ) → RefusesBytes (walk bytes l place)
 walk_refuses bytes end place = choice_refuses (eqb place (length bytes)) (Ok tt) (Err (fault.Range place)) tt tt
 walk_refuses bytes (form ▸ more) place = then_refuses (field_at bytes form place) _ (field_refuses bytes form place) (λ field. walk_refuses bytes more field.1)
 walk_refuses bytes (tagged lowest highest behind) place =
-    then_refuses (number_within bytes w8 lowest highest place) _ (within_refuses bytes w8 lowest highest place) (λ tag. walk_refuses bytes (behind tag) (place + 1))
+    then_refuses (number_within bytes w8 lowest highest place) _ (within_refuses bytes w8 lowest highest place)
+    (λ tag. walk_refuses bytes (behind tag) (place + 1))
 
 version_refuses : (byte : ℕ) → RefusesBytes (version_from byte)
 version_refuses byte =
@@ -153,7 +159,8 @@ envelope_read bytes k c found e is =
     let y = bind_ok (fields_at bytes (Form.Number ▸ layout k) b.0.1) (rest_of b.0.0) x.0 b.2 in
     let d = bind_ok (field_at bytes Form.Number b.0.1) (λ f. fields_at bytes (layout k) f.1 >>= rest_of f.0) y.0 y.1 in
     let z = bind_ok (fields_at bytes (layout k) d.0.1) (rest_of d.0.0) y.0 d.2 in
-    let values : values_at bytes (layout k) d.0.1 ≡ Ok z.0.0 = values_is bytes (layout k) d.0.1 ∙ ap (λ (r : Reading (List Field × ℕ)). r >>= λ (o : List Field × ℕ). Ok o.0) z.1 in
+    let values : values_at bytes (layout k) d.0.1 ≡ Ok z.0.0 = values_is bytes (layout k) d.0.1
+    ∙ ap (λ (r : Reading (List Field × ℕ)). r >>= λ (o : List Field × ℕ). Ok o.0) z.1 in
     let whole : a.0.0 ∷ b.0.0 ∷ d.0.0 ∷ z.0.0 ≡ found.0 =
     ap (λ (o : List Field × ℕ). a.0.0 ∷ b.0.0 ∷ o.0) (ok_is (d.0.0 ∷ z.0.0, z.0.1) y.0 z.2)
     ∙ ap (λ (o : List Field × ℕ). a.0.0 ∷ o.0) (ok_is (b.0.0 ∷ y.0.0, y.0.1) x.0 y.2)
@@ -177,14 +184,16 @@ passed_gives : (bytes : List ℕ) (k : Kind) (frame : IsRead bytes k) → envelo
 passed_gives bytes k frame = subst (λ (j : Kind). envelope_at bytes j ≡ Ok frame.contents) frame.kind_is (reading_gives bytes frame.contents frame.read)
 
 -- an envelope that was read of it is spelled by it
-pub given_spells : (bytes : List ℕ) (k : Kind) (e : Envelope) → AreBytes bytes → framing bytes ≡ Ok k → envelope_at bytes k ≡ Ok (contents_of e) → Spells bytes e
+pub given_spells : (bytes : List ℕ) (k : Kind) (e : Envelope) → AreBytes bytes → framing bytes ≡ Ok k → envelope_at bytes k ≡ Ok (contents_of e) →
+    Spells bytes e
 given_spells bytes k e fits pass given =
     let frame = passed bytes k pass in
     let same : frame.contents ≡ contents_of e = ok_is frame.contents (contents_of e) (sym (passed_gives bytes k frame) ∙ given) in
     spells_read bytes e fits (frame.read ∙ ap (λ (c : Contents). Ok c) same)
 
 -- it is read, unless memory is refused
-pub given_or_memory : (bytes : List ℕ) (k : Kind) (f : FrameFault) → framing bytes ≡ Ok k → (f ≢ fault.OutOfMemory → envelope_at bytes k ≡ Err f) → f ≡ fault.OutOfMemory
+pub given_or_memory : (bytes : List ℕ) (k : Kind) (f : FrameFault) → framing bytes ≡ Ok k → (f ≢ fault.OutOfMemory → envelope_at bytes k ≡ Err f) →
+    f ≡ fault.OutOfMemory
 given_or_memory bytes k fault.OutOfMemory pass given = refl
 given_or_memory bytes k f pass given =
     let frame = passed bytes k pass in

@@ -1,9 +1,12 @@
 -- What was read of a layout has its shape, and so is what some message says.
-use Rattle.std.proofs.Common.{◌≡◌, ℕ, zero, suc, ◌+◌, ◌*◌, ◌≤◌, Bool, true, false, cond, eqb, ltb, List, [], ◌∷◌, length, take, drop, Ok, Err, refl, sym, ap, ◌∙◌, arith}
+use Rattle.std.proofs.Common.{◌≡◌, ℕ, zero, suc, ◌+◌, ◌*◌, ◌≤◌, Bool, true, false, cond, eqb, ltb, List, [], ◌∷◌, length, take, drop, Ok, Err, refl}
+use Rattle.std.proofs.Common.{sym, ap, ◌∙◌, arith}
 use Rattle.std.specs.Prelude.{nat_le, ◌&&◌}
 use Rattle.std.specs.Simd.{first_chunks}
 use Rattle.std.specs.Int.{Width, w8, w16, w32, w64, w128}
 use Rattle.std.proofs.lemmas.Bool.{lt-ltb, le-ltb}
+use Rattle.ring_math.specs.declared.limits.TheConstants.{MOST_BYTES, MOST_ENTRIES, MOST_MEMBERS}
+use Rattle.wire_msg.specs.declared.limits.TheConstants.{MOST_COPIES}
 use Rattle.wire_msg.specs.declared.reply.Reply.{Reply}
 use Rattle.wire_msg.specs.declared.reply.Reply.TheVariants as reply
 use Rattle.wire_msg.specs.declared.reply.Why.{Why}
@@ -75,24 +78,27 @@ has_form bytes Form.Hops place x e =
     let b = bind_ok (number_at bytes w16 place) (λ n. done (Field.Hops n) (place + 2)) x e in
     (b.0, field_is (Field.Hops b.0) (place + 2) x b.2)
 has_form bytes Form.Copies place x e =
-    let b = bind_ok (number_within bytes w8 1 9 place) (λ n. done (Field.Copies n) (place + 1)) x e in
+    let b = bind_ok (number_within bytes w8 1 MOST_COPIES place) (λ n. done (Field.Copies n) (place + 1)) x e in
     (b.0, field_is (Field.Copies b.0) (place + 1) x b.2)
 has_form bytes Form.Bytes place x e =
-    let b = bind_ok (number_within bytes w16 0 4096 place) (λ n. part_at bytes (place + 2) n >>= λ part. done (Field.Bytes part) (place + 2 + n)) x e in
+    let b = bind_ok (number_within bytes w16 0 MOST_BYTES place) (λ n. part_at bytes (place + 2) n >>= λ part. done (Field.Bytes part) (place + 2 + n)) x e in
     let d = bind_ok (part_at bytes (place + 2) b.0) (λ part. done (Field.Bytes part) (place + 2 + b.0)) x b.2 in
     (d.0, field_is (Field.Bytes d.0) (place + 2 + b.0) x d.2)
 has_form bytes Form.Ids place x e =
-    let b = bind_ok (number_within bytes w8 0 17 place) (λ n. part_at bytes (place + 1) (16 * n) >>= λ part. done (Field.Ids (ids_of n part)) (place + 1 + 16 * n)) x e in
+    let b = bind_ok (number_within bytes w8 0 MOST_MEMBERS place)
+    (λ n. part_at bytes (place + 1) (16 * n) >>= λ part. done (Field.Ids (ids_of n part)) (place + 1 + 16 * n)) x e in
     let d = bind_ok (part_at bytes (place + 1) (16 * b.0)) (λ part. done (Field.Ids (ids_of b.0 part)) (place + 1 + 16 * b.0)) x b.2 in
     (ids_of b.0 d.0, field_is (Field.Ids (ids_of b.0 d.0)) (place + 1 + 16 * b.0) x d.2)
 has_form bytes Form.Files place x e =
-    let b = bind_ok (number_within bytes w16 0 4096 place) (λ n. part_at bytes (place + 2) (20 * n) >>= λ part. done (Field.Files (first_chunks 20 n part)) (place + 2 + 20 * n)) x e in
+    let b = bind_ok (number_within bytes w16 0 MOST_ENTRIES place)
+    (λ n. part_at bytes (place + 2) (20 * n) >>= λ part. done (Field.Files (first_chunks 20 n part)) (place + 2 + 20 * n)) x e in
     let d = bind_ok (part_at bytes (place + 2) (20 * b.0)) (λ part. done (Field.Files (first_chunks 20 b.0 part)) (place + 2 + 20 * b.0)) x b.2 in
     (first_chunks 20 b.0 d.0, field_is (Field.Files (first_chunks 20 b.0 d.0)) (place + 2 + 20 * b.0) x d.2)
 has_form bytes Form.Tombs place x e =
-    let b = bind_ok (number_within bytes w16 1 4096 place) (λ n. part_at bytes (place + 2) (20 * n) >>= λ part. done (Field.Tombs (first_chunks 20 n part)) (place + 2 + 20 * n)) x e in
+    let b = bind_ok (number_within bytes w16 1 MOST_ENTRIES place)
+    (λ n. part_at bytes (place + 2) (20 * n) >>= λ part. done (Field.Tombs (first_chunks 20 n part)) (place + 2 + 20 * n)) x e in
     let d = bind_ok (part_at bytes (place + 2) (20 * b.0)) (λ part. done (Field.Tombs (first_chunks 20 b.0 part)) (place + 2 + 20 * b.0)) x b.2 in
-    let some = cut_some b.0 d.0 (within_range bytes w16 1 4096 place b.0 b.1).0 in
+    let some = cut_some b.0 d.0 (within_range bytes w16 1 MOST_ENTRIES place b.0 b.1).0 in
     (some.0, some.1, field_is (Field.Tombs (first_chunks 20 b.0 d.0)) (place + 2 + 20 * b.0) x d.2 ∙ ap (λ (t : List (List ℕ)). Field.Tombs t) some.2)
 
 -- ---- the shape of all fields
@@ -100,7 +106,8 @@ has_form bytes Form.Tombs place x e =
 abbrev Shaped : Layout → List Field → Type 0
 Shaped end fields = fields ≡ []
 Shaped (form ▸ more) fields = (field : Field) × (rest : List Field) × (fields ≡ field ∷ rest) × HasForm form field × Shaped more rest
-Shaped (tagged lowest highest behind) fields = (tag : ℕ) × (rest : List Field) × (fields ≡ Field.Tag tag ∷ rest) × (lowest ≤ tag) × (tag ≤ highest) × Shaped (behind tag) rest
+Shaped (tagged lowest highest behind) fields = (tag : ℕ) × (rest : List Field) × (fields ≡ Field.Tag tag ∷ rest) × (lowest ≤ tag) × (tag ≤ highest) × Shaped
+    (behind tag) rest
 
 abbrev all_done : List Field → ℕ → Reading (List Field × ℕ)
 all_done fields next = Ok (fields, next)
@@ -117,7 +124,8 @@ shaped bytes (form ▸ more) place x e =
     let d = bind_ok (fields_at bytes more b.0.1) (λ others. all_done (b.0.0 ∷ others.0) others.1) x b.2 in
     (b.0.0, d.0.0, fields_are (b.0.0 ∷ d.0.0) d.0.1 x d.2, has_form bytes form place b.0 b.1, shaped bytes more b.0.1 d.0 d.1)
 shaped bytes (tagged lowest highest behind) place x e =
-    let b = bind_ok (number_within bytes w8 lowest highest place) (λ tag. fields_at bytes (behind tag) (place + 1) >>= λ others. all_done (Field.Tag tag ∷ others.0) others.1) x e in
+    let b = bind_ok (number_within bytes w8 lowest highest place)
+    (λ tag. fields_at bytes (behind tag) (place + 1) >>= λ others. all_done (Field.Tag tag ∷ others.0) others.1) x e in
     let d = bind_ok (fields_at bytes (behind b.0) (place + 1)) (λ others. all_done (Field.Tag b.0 ∷ others.0) others.1) x b.2 in
     let range = within_range bytes w8 lowest highest place b.0 b.1 in
     (b.0, d.0.0, fields_are (Field.Tag b.0 ∷ d.0.0) d.0.1 x d.2, range.0, range.1, shaped bytes (behind b.0) (place + 1) d.0 d.1)
@@ -152,17 +160,28 @@ is_why fields s =
 
 reply_behind : (tag : ℕ) (rest : List Field) → 1 ≤ tag → tag ≤ 11 → Shaped (layouts.behind_reply tag) rest → IsReply tag (Field.Tag tag ∷ rest)
 reply_behind zero rest low high s = absurd (omega arith)
-reply_behind (suc zero) rest low high s = record { reply_is = reply.Delivered s.3.0 s.4.3.0; tag_is = refl; fields_are = cc (s.2, s.3.1, s.4.2, s.4.3.1, s.4.4) }
+reply_behind (suc zero) rest low high s = record {
+  reply_is = reply.Delivered s.3.0 s.4.3.0;
+  tag_is = refl;
+  fields_are = cc (s.2, s.3.1, s.4.2, s.4.3.1, s.4.4);
+}
 reply_behind (suc (suc zero)) rest low high s = record { reply_is = reply.Stored s.3.0; tag_is = refl; fields_are = cc (s.2, s.3.1, s.4) }
-reply_behind (suc (suc (suc zero))) rest low high s = record { reply_is = reply.Found s.3.0 s.4.3.0; tag_is = refl; fields_are = cc (s.2, s.3.1, s.4.2, s.4.3.1, s.4.4) }
+reply_behind (suc (suc (suc zero))) rest low high s = record
+    { reply_is = reply.Found s.3.0 s.4.3.0; tag_is = refl; fields_are = cc (s.2, s.3.1, s.4.2, s.4.3.1, s.4.4) }
 reply_behind (suc (suc (suc (suc zero)))) rest low high s = record { reply_is = reply.NotFound s.3.0; tag_is = refl; fields_are = cc (s.2, s.3.1, s.4) }
 reply_behind (suc (suc (suc (suc (suc zero))))) rest low high s = record { reply_is = reply.Collision s.3.0; tag_is = refl; fields_are = cc (s.2, s.3.1, s.4) }
-reply_behind (suc (suc (suc (suc (suc (suc zero)))))) rest low high s = record { reply_is = reply.TooFew s.3.0 s.4.3.0; tag_is = refl; fields_are = cc (s.2, s.3.1, s.4.2, s.4.3.1, s.4.4) }
-reply_behind (suc (suc (suc (suc (suc (suc (suc zero))))))) rest low high s = record { reply_is = reply.Busy s.3.0 s.4.3.0; tag_is = refl; fields_are = cc (s.2, s.3.1, s.4.2, s.4.3.1, s.4.4) }
-reply_behind (suc (suc (suc (suc (suc (suc (suc (suc zero)))))))) rest low high s = record { reply_is = reply.NotReady s.3.0; tag_is = refl; fields_are = cc (s.2, s.3.1, s.4) }
-reply_behind (suc (suc (suc (suc (suc (suc (suc (suc (suc zero))))))))) rest low high s = record { reply_is = reply.Full s.3.0; tag_is = refl; fields_are = cc (s.2, s.3.1, s.4) }
-reply_behind (suc (suc (suc (suc (suc (suc (suc (suc (suc (suc zero)))))))))) rest low high s = record { reply_is = reply.Gone s.3.0; tag_is = refl; fields_are = cc (s.2, s.3.1, s.4) }
-reply_behind (suc (suc (suc (suc (suc (suc (suc (suc (suc (suc (suc zero))))))))))) rest low high s = record { reply_is = reply.Reclaimed s.3.0; tag_is = refl; fields_are = cc (s.2, s.3.1, s.4) }
+reply_behind (suc (suc (suc (suc (suc (suc zero)))))) rest low high s =
+    record { reply_is = reply.TooFew s.3.0 s.4.3.0; tag_is = refl; fields_are = cc (s.2, s.3.1, s.4.2, s.4.3.1, s.4.4) }
+reply_behind (suc (suc (suc (suc (suc (suc (suc zero))))))) rest low high s =
+    record { reply_is = reply.Busy s.3.0 s.4.3.0; tag_is = refl; fields_are = cc (s.2, s.3.1, s.4.2, s.4.3.1, s.4.4) }
+reply_behind (suc (suc (suc (suc (suc (suc (suc (suc zero)))))))) rest low high s =
+    record { reply_is = reply.NotReady s.3.0; tag_is = refl; fields_are = cc (s.2, s.3.1, s.4) }
+reply_behind (suc (suc (suc (suc (suc (suc (suc (suc (suc zero))))))))) rest low high s =
+    record { reply_is = reply.Full s.3.0; tag_is = refl; fields_are = cc (s.2, s.3.1, s.4) }
+reply_behind (suc (suc (suc (suc (suc (suc (suc (suc (suc (suc zero)))))))))) rest low high s =
+    record { reply_is = reply.Gone s.3.0; tag_is = refl; fields_are = cc (s.2, s.3.1, s.4) }
+reply_behind (suc (suc (suc (suc (suc (suc (suc (suc (suc (suc (suc zero))))))))))) rest low high s =
+    record { reply_is = reply.Reclaimed s.3.0; tag_is = refl; fields_are = cc (s.2, s.3.1, s.4) }
 reply_behind (suc (suc (suc (suc (suc (suc (suc (suc (suc (suc (suc (suc tag)))))))))))) rest low high s = absurd (omega arith)
 
 is_reply : (lowest highest : ℕ) (fields : List Field) → 1 ≤ lowest → highest ≤ 11 → Shaped (tagged lowest highest layouts.behind_reply) fields
@@ -182,39 +201,105 @@ record IsReplyIn (v : Version) (fields : List Field) : Type 0 where
 is_reply_in : (v : Version) (fields : List Field) → Shaped (layouts.reply v) fields → IsReplyIn v fields
 is_reply_in One fields s =
     let found = is_reply 1 9 fields (omega arith) (omega arith) s in
-    record { reply_is = found.3.reply_is; version = version_is found.3.reply_is One true (lt-ltb _ _ (omega (arith, found.2, found.3.tag_is))) refl; fields_are = found.3.fields_are }
+    record {
+      reply_is = found.3.reply_is;
+      version = version_is found.3.reply_is One true (lt-ltb _ _ (omega (arith, found.2, found.3.tag_is))) refl;
+      fields_are = found.3.fields_are;
+    }
 is_reply_in Two fields s =
     let found = is_reply 10 11 fields (omega arith) (omega arith) s in
-    record { reply_is = found.3.reply_is; version = version_is found.3.reply_is Two false (le-ltb _ _ (omega (arith, found.1, found.3.tag_is))) refl; fields_are = found.3.fields_are }
+    record {
+      reply_is = found.3.reply_is;
+      version = version_is found.3.reply_is Two false (le-ltb _ _ (omega (arith, found.1, found.3.tag_is))) refl;
+      fields_are = found.3.fields_are;
+    }
 
 pub message_said : (k : Kind) (fields : List Field) → Shaped (layout k) fields → Says k fields
-message_said kind.Lookup fields s = record { message = Message.Lookup s.3.0 s.4.3.0 s.4.4.3.0 s.4.4.4.3.0; kind_is = refl; fields_are = cc (s.2, s.3.1, s.4.2, s.4.3.1, s.4.4.2, s.4.4.3.1, s.4.4.4.2, s.4.4.4.3.1, s.4.4.4.4) }
+message_said kind.Lookup fields s = record {
+  message = Message.Lookup s.3.0 s.4.3.0 s.4.4.3.0 s.4.4.4.3.0;
+  kind_is = refl;
+  fields_are = cc (s.2, s.3.1, s.4.2, s.4.3.1, s.4.4.2, s.4.4.3.1, s.4.4.4.2, s.4.4.4.3.1, s.4.4.4.4);
+}
 message_said (kind.LookupReply v) fields s =
     let found = is_reply_in v s.1 s.4 in
     let same = found.fields_are in
-    record { message = Message.LookupReply s.3.0 found.reply_is; kind_is = ap (λ (x : Version). kind.LookupReply x) found.version; fields_are = cc (s.2, s.3.1, same) }
-message_said kind.Insert fields s = record { message = Message.Insert s.3.0 s.4.3.0 s.4.4.3.0 s.4.4.4.3.0 s.4.4.4.4.3.0 s.4.4.4.4.4.3.0; kind_is = refl; fields_are = cc (s.2, s.3.1, s.4.2, s.4.3.1, s.4.4.2, s.4.4.3.1, s.4.4.4.2, s.4.4.4.3.1, s.4.4.4.4.2, s.4.4.4.4.3.1, s.4.4.4.4.4.2, s.4.4.4.4.4.3.1, s.4.4.4.4.4.4) }
+    record {
+      message = Message.LookupReply s.3.0 found.reply_is;
+      kind_is = ap (λ (x : Version). kind.LookupReply x) found.version;
+      fields_are = cc (s.2, s.3.1, same);
+    }
+message_said kind.Insert fields s = record {
+  message = Message.Insert s.3.0 s.4.3.0 s.4.4.3.0 s.4.4.4.3.0 s.4.4.4.4.3.0 s.4.4.4.4.4.3.0;
+  kind_is = refl;
+  fields_are = cc (
+    s.2,
+    s.3.1,
+    s.4.2,
+    s.4.3.1,
+    s.4.4.2,
+    s.4.4.3.1,
+    s.4.4.4.2,
+    s.4.4.4.3.1,
+    s.4.4.4.4.2,
+    s.4.4.4.4.3.1,
+    s.4.4.4.4.4.2,
+    s.4.4.4.4.4.3.1,
+    s.4.4.4.4.4.4,
+  );
+}
 message_said (kind.InsertReply v) fields s =
     let found = is_reply_in v s.1 s.4 in
     let same = found.fields_are in
-    record { message = Message.InsertReply s.3.0 found.reply_is; kind_is = ap (λ (x : Version). kind.InsertReply x) found.version; fields_are = cc (s.2, s.3.1, same) }
-message_said kind.Fetch fields s = record { message = Message.Fetch s.3.0 s.4.3.0 s.4.4.3.0 s.4.4.4.3.0; kind_is = refl; fields_are = cc (s.2, s.3.1, s.4.2, s.4.3.1, s.4.4.2, s.4.4.3.1, s.4.4.4.2, s.4.4.4.3.1, s.4.4.4.4) }
+    record {
+      message = Message.InsertReply s.3.0 found.reply_is;
+      kind_is = ap (λ (x : Version). kind.InsertReply x) found.version;
+      fields_are = cc (s.2, s.3.1, same);
+    }
+message_said kind.Fetch fields s = record {
+  message = Message.Fetch s.3.0 s.4.3.0 s.4.4.3.0 s.4.4.4.3.0;
+  kind_is = refl;
+  fields_are = cc (s.2, s.3.1, s.4.2, s.4.3.1, s.4.4.2, s.4.4.3.1, s.4.4.4.2, s.4.4.4.3.1, s.4.4.4.4);
+}
 message_said (kind.FetchReply v) fields s =
     let found = is_reply_in v s.1 s.4 in
     let same = found.fields_are in
-    record { message = Message.FetchReply s.3.0 found.reply_is; kind_is = ap (λ (x : Version). kind.FetchReply x) found.version; fields_are = cc (s.2, s.3.1, same) }
-message_said kind.JoinRequest fields s = record { message = Message.JoinRequest s.3.0 s.4.3.0 s.4.4.3.0; kind_is = refl; fields_are = cc (s.2, s.3.1, s.4.2, s.4.3.1, s.4.4.2, s.4.4.3.1, s.4.4.4) }
+    record {
+      message = Message.FetchReply s.3.0 found.reply_is;
+      kind_is = ap (λ (x : Version). kind.FetchReply x) found.version;
+      fields_are = cc (s.2, s.3.1, same);
+    }
+message_said kind.JoinRequest fields s = record {
+  message = Message.JoinRequest s.3.0 s.4.3.0 s.4.4.3.0;
+  kind_is = refl;
+  fields_are = cc (s.2, s.3.1, s.4.2, s.4.3.1, s.4.4.2, s.4.4.3.1, s.4.4.4);
+}
 message_said kind.JoinReply fields s = record { message = Message.JoinReply s.3.0 s.4.3.0; kind_is = refl; fields_are = cc (s.2, s.3.1, s.4.2, s.4.3.1, s.4.4) }
 message_said kind.JoinRefuse fields s =
     let found = is_why s.1 s.4 in
     let same = found.fields_are in
     record { message = Message.JoinRefuse s.3.0 found.why_is; kind_is = refl; fields_are = cc (s.2, s.3.1, same) }
 message_said kind.Probe fields s = record { message = Message.Probe s.3.0; kind_is = refl; fields_are = cc (s.2, s.3.1, s.4) }
-message_said kind.ProbeReply fields s = record { message = Message.ProbeReply s.3.0 s.4.3.0; kind_is = refl; fields_are = cc (s.2, s.3.1, s.4.2, s.4.3.1, s.4.4) }
-message_said kind.LeaseRequest fields s = record { message = Message.LeaseRequest s.3.0 s.4.3.0 s.4.4.3.0; kind_is = refl; fields_are = cc (s.2, s.3.1, s.4.2, s.4.3.1, s.4.4.2, s.4.4.3.1, s.4.4.4) }
-message_said (kind.Grant One) fields s = record { message = Message.Grant s.3.0 s.4.3.0 []; kind_is = refl; fields_are = cc (s.2, s.3.1, s.4.2, s.4.3.1, s.4.4) }
+message_said kind.ProbeReply fields s = record {
+  message = Message.ProbeReply s.3.0 s.4.3.0;
+  kind_is = refl;
+  fields_are = cc (s.2, s.3.1, s.4.2, s.4.3.1, s.4.4);
+}
+message_said kind.LeaseRequest fields s = record {
+  message = Message.LeaseRequest s.3.0 s.4.3.0 s.4.4.3.0;
+  kind_is = refl;
+  fields_are = cc (s.2, s.3.1, s.4.2, s.4.3.1, s.4.4.2, s.4.4.3.1, s.4.4.4);
+}
+message_said (kind.Grant One) fields s = record {
+  message = Message.Grant s.3.0 s.4.3.0 [];
+  kind_is = refl;
+  fields_are = cc (s.2, s.3.1, s.4.2, s.4.3.1, s.4.4);
+}
 message_said (kind.Grant Two) fields s =
-    record { message = Message.Grant s.3.0 s.4.3.0 (s.4.4.3.0 ∷ s.4.4.3.1); kind_is = refl; fields_are = cc (s.2, s.3.1, s.4.2, s.4.3.1, s.4.4.2, s.4.4.3.2, s.4.4.4) }
+    record {
+      message = Message.Grant s.3.0 s.4.3.0 (s.4.4.3.0 ∷ s.4.4.3.1);
+      kind_is = refl;
+      fields_are = cc (s.2, s.3.1, s.4.2, s.4.3.1, s.4.4.2, s.4.4.3.2, s.4.4.4);
+    }
 message_said kind.Deny fields s =
     let found = is_why s.1 s.4 in
     let same = found.fields_are in
@@ -223,9 +308,21 @@ message_said kind.Handover fields s = record { message = Message.Handover s.3.0 
 message_said kind.Release fields s = record { message = Message.Release s.3.0; kind_is = refl; fields_are = cc (s.2, s.3.1, s.4) }
 message_said kind.Confirm fields s = record { message = Message.Confirm s.3.0; kind_is = refl; fields_are = cc (s.2, s.3.1, s.4) }
 message_said kind.Announce fields s = record { message = Message.Announce; kind_is = refl; fields_are = sym s }
-message_said kind.Replicate fields s = record { message = Message.Replicate s.3.0 s.4.3.0 s.4.4.3.0 s.4.4.4.3.0; kind_is = refl; fields_are = cc (s.2, s.3.1, s.4.2, s.4.3.1, s.4.4.2, s.4.4.3.1, s.4.4.4.2, s.4.4.4.3.1, s.4.4.4.4) }
-message_said kind.ReplicaAck fields s = record { message = Message.ReplicaAck s.3.0 s.4.3.0 s.4.4.3.0; kind_is = refl; fields_are = cc (s.2, s.3.1, s.4.2, s.4.3.1, s.4.4.2, s.4.4.3.1, s.4.4.4) }
-message_said kind.Reclaim fields s = record { message = Message.Reclaim s.3.0 s.4.3.0 s.4.4.3.0 s.4.4.4.3.0; kind_is = refl; fields_are = cc (s.2, s.3.1, s.4.2, s.4.3.1, s.4.4.2, s.4.4.3.1, s.4.4.4.2, s.4.4.4.3.1, s.4.4.4.4) }
+message_said kind.Replicate fields s = record {
+  message = Message.Replicate s.3.0 s.4.3.0 s.4.4.3.0 s.4.4.4.3.0;
+  kind_is = refl;
+  fields_are = cc (s.2, s.3.1, s.4.2, s.4.3.1, s.4.4.2, s.4.4.3.1, s.4.4.4.2, s.4.4.4.3.1, s.4.4.4.4);
+}
+message_said kind.ReplicaAck fields s = record {
+  message = Message.ReplicaAck s.3.0 s.4.3.0 s.4.4.3.0;
+  kind_is = refl;
+  fields_are = cc (s.2, s.3.1, s.4.2, s.4.3.1, s.4.4.2, s.4.4.3.1, s.4.4.4);
+}
+message_said kind.Reclaim fields s = record {
+  message = Message.Reclaim s.3.0 s.4.3.0 s.4.4.3.0 s.4.4.4.3.0;
+  kind_is = refl;
+  fields_are = cc (s.2, s.3.1, s.4.2, s.4.3.1, s.4.4.2, s.4.4.3.1, s.4.4.4.2, s.4.4.4.3.1, s.4.4.4.4);
+}
 message_said kind.ReclaimReply fields s =
     let found = is_reply 1 11 s.1 (omega arith) (omega arith) s.4 in
     let same = found.3.fields_are in

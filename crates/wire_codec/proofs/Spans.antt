@@ -58,24 +58,32 @@ put_ended bytes field (Err e) w is = is
 pub values_is : (bytes : List ℕ) (l : Layout) (place : ℕ) → values_at bytes l place ≡ (fields_at bytes l place >>= values_of)
 values_is bytes end place = refl
 values_is bytes (form ▸ more) place =
-    same_then (field_at bytes form place) (λ field. values_at bytes more field.1 >>= λ others. Ok (field.0 ∷ others)) (λ field. (fields_at bytes more field.1 >>= λ others. Ok (field.0 ∷ others.0, others.1)) >>= values_of)
+    same_then (field_at bytes form place) (λ field. values_at bytes more field.1 >>= λ others. Ok (field.0 ∷ others))
+    (λ field. (fields_at bytes more field.1 >>= λ others. Ok (field.0 ∷ others.0, others.1)) >>= values_of)
     (λ field. put_values field.0 (fields_at bytes more field.1) (values_at bytes more field.1) (values_is bytes more field.1))
     ∙ sym (then_then (field_at bytes form place) (λ field. fields_at bytes more field.1 >>= λ others. Ok (field.0 ∷ others.0, others.1)) values_of)
 values_is bytes (tagged lowest highest behind) place =
-    same_then (number_within bytes w8 lowest highest place) (λ tag. values_at bytes (behind tag) (place + 1) >>= λ others. Ok (Field.Tag tag ∷ others)) (λ tag. (fields_at bytes (behind tag) (place + 1) >>= λ others. Ok (Field.Tag tag ∷ others.0, others.1)) >>= values_of)
-    (λ tag. put_values (Field.Tag tag) (fields_at bytes (behind tag) (place + 1)) (values_at bytes (behind tag) (place + 1)) (values_is bytes (behind tag) (place + 1)))
-    ∙ sym (then_then (number_within bytes w8 lowest highest place) (λ tag. fields_at bytes (behind tag) (place + 1) >>= λ others. Ok (Field.Tag tag ∷ others.0, others.1)) values_of)
+    same_then (number_within bytes w8 lowest highest place) (λ tag. values_at bytes (behind tag) (place + 1) >>= λ others. Ok (Field.Tag tag ∷ others))
+    (λ tag. (fields_at bytes (behind tag) (place + 1) >>= λ others. Ok (Field.Tag tag ∷ others.0, others.1)) >>= values_of)
+    (λ tag. put_values (Field.Tag tag) (fields_at bytes (behind tag) (place + 1)) (values_at bytes (behind tag) (place + 1))
+    (values_is bytes (behind tag) (place + 1)))
+    ∙ sym (then_then (number_within bytes w8 lowest highest place)
+    (λ tag. fields_at bytes (behind tag) (place + 1) >>= λ others. Ok (Field.Tag tag ∷ others.0, others.1)) values_of)
 
 pub walk_is : (bytes : List ℕ) (l : Layout) (place : ℕ) → walk bytes l place ≡ (fields_at bytes l place >>= ended bytes)
 walk_is bytes end place = refl
 walk_is bytes (form ▸ more) place =
-    same_then (field_at bytes form place) (λ field. walk bytes more field.1) (λ field. (fields_at bytes more field.1 >>= λ others. Ok (field.0 ∷ others.0, others.1)) >>= ended bytes)
+    same_then (field_at bytes form place) (λ field. walk bytes more field.1)
+    (λ field. (fields_at bytes more field.1 >>= λ others. Ok (field.0 ∷ others.0, others.1)) >>= ended bytes)
     (λ field. put_ended bytes field.0 (fields_at bytes more field.1) (walk bytes more field.1) (walk_is bytes more field.1))
     ∙ sym (then_then (field_at bytes form place) (λ field. fields_at bytes more field.1 >>= λ others. Ok (field.0 ∷ others.0, others.1)) (ended bytes))
 walk_is bytes (tagged lowest highest behind) place =
-    same_then (number_within bytes w8 lowest highest place) (λ tag. walk bytes (behind tag) (place + 1)) (λ tag. (fields_at bytes (behind tag) (place + 1) >>= λ others. Ok (Field.Tag tag ∷ others.0, others.1)) >>= ended bytes)
-    (λ tag. put_ended bytes (Field.Tag tag) (fields_at bytes (behind tag) (place + 1)) (walk bytes (behind tag) (place + 1)) (walk_is bytes (behind tag) (place + 1)))
-    ∙ sym (then_then (number_within bytes w8 lowest highest place) (λ tag. fields_at bytes (behind tag) (place + 1) >>= λ others. Ok (Field.Tag tag ∷ others.0, others.1)) (ended bytes))
+    same_then (number_within bytes w8 lowest highest place) (λ tag. walk bytes (behind tag) (place + 1))
+    (λ tag. (fields_at bytes (behind tag) (place + 1) >>= λ others. Ok (Field.Tag tag ∷ others.0, others.1)) >>= ended bytes)
+    (λ tag. put_ended bytes (Field.Tag tag) (fields_at bytes (behind tag) (place + 1)) (walk bytes (behind tag) (place + 1))
+    (walk_is bytes (behind tag) (place + 1)))
+    ∙ sym (then_then (number_within bytes w8 lowest highest place)
+    (λ tag. fields_at bytes (behind tag) (place + 1) >>= λ others. Ok (Field.Tag tag ∷ others.0, others.1)) (ended bytes))
 
 -- ---- a whole frame
 
@@ -90,13 +98,16 @@ test_kept : (b : Bool) (k : Kind) (fields : List Field) (e : FrameFault)
 test_kept true k fields e = refl
 test_kept false k fields e = refl
 
-ended_kept : (bytes : List ℕ) (k : Kind) (r : Reading (List Field × ℕ)) → ((r >>= ended bytes) >>= λ (u : Unit {0}). Ok k) ≡ ((r >>= says bytes k) >>= λ (c : Contents). Ok c.kind)
+ended_kept : (bytes : List ℕ) (k : Kind) (r : Reading (List Field × ℕ)) →
+    ((r >>= ended bytes) >>= λ (u : Unit {0}). Ok k) ≡ ((r >>= says bytes k) >>= λ (c : Contents). Ok c.kind)
 ended_kept bytes k (Ok found) = test_kept (eqb found.1 (length bytes)) k found.0 (fault.Range found.1)
 ended_kept bytes k (Err e) = refl
 
 -- the kind that the walk finds is that of what the frame says
 pub framing_is : (bytes : List ℕ) → framing bytes ≡ (reading bytes >>= λ c. Ok c.kind)
 framing_is bytes =
-    same_then (header_of bytes) (λ k. walk bytes (whole_layout k) 6 >>= λ (u : Unit {0}). Ok k) (λ k. (fields_at bytes (whole_layout k) 6 >>= says bytes k) >>= λ (c : Contents). Ok c.kind)
-    (λ k. ap (λ (w : Reading (Unit {0})). w >>= λ (u : Unit {0}). Ok k) (walk_is bytes (whole_layout k) 6) ∙ ended_kept bytes k (fields_at bytes (whole_layout k) 6))
+    same_then (header_of bytes) (λ k. walk bytes (whole_layout k) 6 >>= λ (u : Unit {0}). Ok k)
+    (λ k. (fields_at bytes (whole_layout k) 6 >>= says bytes k) >>= λ (c : Contents). Ok c.kind)
+    (λ k. ap (λ (w : Reading (Unit {0})). w >>= λ (u : Unit {0}). Ok k) (walk_is bytes (whole_layout k) 6)
+    ∙ ended_kept bytes k (fields_at bytes (whole_layout k) 6))
     ∙ sym (then_then (header_of bytes) (λ k. fields_at bytes (whole_layout k) 6 >>= says bytes k) (λ (c : Contents). Ok c.kind))

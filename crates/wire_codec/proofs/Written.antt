@@ -15,7 +15,8 @@ use Rattle.wire_codec.proofs.Sized.{length-fields}
 
 pub writes_then : {a b c : List ℕ} {f : Field} {fs : List Field} → Writes a b (f ∷ []) → Writes b c fs → Writes a c (f ∷ fs)
 writes_then {a} {b} {c} {f} {fs} first others = record {
-  bytes = others.bytes ∙ ap (λ (x : List ℕ). x ++ flat_map spelled fs) (first.bytes ∙ ap (λ (x : List ℕ). a ++ x) (append-nil (spelled f))) ∙ append_assoc a (spelled f) (flat_map spelled fs);
+  bytes = others.bytes ∙ ap (λ (x : List ℕ). x ++ flat_map spelled fs) (first.bytes ∙ ap (λ (x : List ℕ). a ++ x) (append-nil (spelled f)))
+      ∙ append_assoc a (spelled f) (flat_map spelled fs);
   fits = (first.fits.0, others.fits);
 }
 
@@ -30,12 +31,14 @@ asked_then {a} {b} {c} {origin} {number} {fs} first others = let asked = Field.I
 
 -- the fields of an envelope's addresses, and others behind them
 pub addresses_then : {a b c : List ℕ} {sender receiver stamp : ℕ} {fs : List Field} →
-    Writes a b (Field.Id sender ∷ (Field.Id receiver ∷ (Field.Number stamp ∷ []))) → Writes b c fs → Writes a c (Field.Id sender ∷ (Field.Id receiver ∷ (Field.Number stamp ∷ fs)))
-addresses_then {a} {b} {c} {sender} {receiver} {stamp} {fs} first others = let addresses = Field.Id sender ∷ (Field.Id receiver ∷ (Field.Number stamp ∷ [])) in record {
-  bytes = others.bytes ∙ ap (λ (x : List ℕ). x ++ flat_map spelled fs) first.bytes ∙ append_assoc a (flat_map spelled addresses) (flat_map spelled fs)
-      ∙ ap (λ (x : List ℕ). a ++ x) (sym (flat_map-append spelled addresses fs));
-  fits = (first.fits.0, (first.fits.1.0, (first.fits.1.1.0, others.fits)));
-}
+    Writes a b (Field.Id sender ∷ (Field.Id receiver ∷ (Field.Number stamp ∷ []))) → Writes b c fs →
+    Writes a c (Field.Id sender ∷ (Field.Id receiver ∷ (Field.Number stamp ∷ fs)))
+addresses_then {a} {b} {c} {sender} {receiver} {stamp} {fs} first others = let addresses =
+    Field.Id sender ∷ (Field.Id receiver ∷ (Field.Number stamp ∷ [])) in record {
+      bytes = others.bytes ∙ ap (λ (x : List ℕ). x ++ flat_map spelled fs) first.bytes ∙ append_assoc a (flat_map spelled addresses) (flat_map spelled fs)
+          ∙ ap (λ (x : List ℕ). a ++ x) (sym (flat_map-append spelled addresses fs));
+      fits = (first.fits.0, (first.fits.1.0, (first.fits.1.1.0, others.fits)));
+    }
 
 -- an identifier is written by halves
 pub id_written : (id high low : ℕ) {a b c : List ℕ} → id < 2 ^ 128 → id ≡ high * 18446744073709551616 + low → low < 2 ^ 64 → high < 2 ^ 64
@@ -65,16 +68,18 @@ pub addresses_written : (sender receiver stamp high low high_too low_too : ℕ) 
     → receiver ≡ high_too * 18446744073709551616 + low_too → low_too < 2 ^ 64 → high_too < 2 ^ 64
     → new ≡ old ++ (to_be_bytes w64 high ++ (to_be_bytes w64 low ++ (to_be_bytes w64 high_too ++ (to_be_bytes w64 low_too ++ (to_be_bytes w64 stamp ++ [])))))
     → Writes old new (Field.Id sender ∷ (Field.Id receiver ∷ (Field.Number stamp ∷ [])))
-addresses_written sender receiver stamp high low high_too low_too {old} {new} fits fits_too fits_stamp parts low_fits high_fits parts_too low_fits_too high_fits_too written = record {
-  bytes = written
-      ∙ ap (λ (x : List ℕ). old ++ x)
-      (sym (append_assoc (to_be_bytes w64 high) (to_be_bytes w64 low) _)
-      ∙ ap (λ (x : List ℕ). x ++ (to_be_bytes w64 high_too ++ (to_be_bytes w64 low_too ++ (to_be_bytes w64 stamp ++ [])))) (sym (halves_spelled sender high low parts low_fits high_fits))
-      ∙ ap (λ (x : List ℕ). to_be_bytes w128 sender ++ x)
-      (sym (append_assoc (to_be_bytes w64 high_too) (to_be_bytes w64 low_too) _)
-      ∙ ap (λ (x : List ℕ). x ++ (to_be_bytes w64 stamp ++ [])) (sym (halves_spelled receiver high_too low_too parts_too low_fits_too high_fits_too))));
-  fits = (fits, (fits_too, (fits_stamp, tt)));
-}
+addresses_written sender receiver stamp high low high_too low_too {old} {new} fits fits_too fits_stamp parts low_fits high_fits parts_too low_fits_too
+    high_fits_too written = record {
+      bytes = written
+          ∙ ap (λ (x : List ℕ). old ++ x)
+          (sym (append_assoc (to_be_bytes w64 high) (to_be_bytes w64 low) _)
+          ∙ ap (λ (x : List ℕ). x ++ (to_be_bytes w64 high_too ++ (to_be_bytes w64 low_too ++ (to_be_bytes w64 stamp ++ []))))
+          (sym (halves_spelled sender high low parts low_fits high_fits))
+          ∙ ap (λ (x : List ℕ). to_be_bytes w128 sender ++ x)
+          (sym (append_assoc (to_be_bytes w64 high_too) (to_be_bytes w64 low_too) _)
+          ∙ ap (λ (x : List ℕ). x ++ (to_be_bytes w64 stamp ++ [])) (sym (halves_spelled receiver high_too low_too parts_too low_fits_too high_fits_too))));
+      fits = (fits, (fits_too, (fits_stamp, tt)));
+    }
 
 -- behind a header with the right size, the fields of an envelope make its frame
 pub frame_written : (e : Envelope) (size : ℕ) {header a b : List ℕ}
@@ -85,6 +90,7 @@ frame_written e size {header} {a} {b} header_is size_is addresses fields =
     let all = addresses_then addresses fields in
     let long : size ≡ length (flat_map spelled (contents_of e).fields) = omega (arith, length-fields (contents_of e).fields all.fits) in
     record {
-      bytes_are = all.bytes ∙ ap (λ (front : List ℕ). front ++ flat_map spelled (contents_of e).fields) (header_is ∙ ap (λ (n : ℕ). version_number (version_of (kind_of e.message)) ∷ number_of (kind_of e.message) ∷ to_be_bytes w32 n) long);
+      bytes_are = all.bytes ∙ ap (λ (front : List ℕ). front ++ flat_map spelled (contents_of e).fields)
+          (header_is ∙ ap (λ (n : ℕ). version_number (version_of (kind_of e.message)) ∷ number_of (kind_of e.message) ∷ to_be_bytes w32 n) long);
       fits = all.fits;
     }

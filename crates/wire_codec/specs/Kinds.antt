@@ -1,5 +1,6 @@
 -- The kinds of frames: the number and the version of each, and the kind and the fields of each message.
 use Rattle.std.specs.Prelude.{ℕ, nat_lt, if◌then◌else◌, List, [], ◌∷◌}
+use Rattle.ring_math.specs.Names.{FileId}
 use Rattle.wire_msg.specs.declared.reply.Reply.{Reply}
 use Rattle.wire_msg.specs.declared.reply.Reply.TheVariants as reply
 use Rattle.wire_msg.specs.declared.reply.Why.{Why}
@@ -77,14 +78,15 @@ fields_of_reply (reply.Gone node) = Field.Tag 10 ∷ Field.Id node ∷ []
 fields_of_reply (reply.Reclaimed node) = Field.Tag 11 ∷ Field.Id node ∷ []
 
 -- a Grant without tombs has no field for them
-abbrev pub fields_of_tombs : List (List ℕ) → List Field
+abbrev pub fields_of_tombs : List FileId → List Field
 fields_of_tombs [] = []
 fields_of_tombs (tomb ∷ tombs) = Field.Tombs (tomb ∷ tombs) ∷ []
 
 abbrev pub fields_of : Message → List Field
 fields_of (Message.Lookup origin number key hops) = Field.Id origin ∷ Field.Number number ∷ Field.Id key ∷ Field.Hops hops ∷ []
 fields_of (Message.LookupReply number reply) = Field.Number number ∷ fields_of_reply reply
-fields_of (Message.Insert origin number hops file copies bytes) = Field.Id origin ∷ Field.Number number ∷ Field.Hops hops ∷ Field.File file ∷ Field.Copies copies ∷ Field.Bytes bytes ∷ []
+fields_of (Message.Insert origin number hops file copies bytes) =
+    Field.Id origin ∷ Field.Number number ∷ Field.Hops hops ∷ Field.File file ∷ Field.Copies copies ∷ Field.Bytes bytes ∷ []
 fields_of (Message.InsertReply number reply) = Field.Number number ∷ fields_of_reply reply
 fields_of (Message.Fetch origin number hops file) = Field.Id origin ∷ Field.Number number ∷ Field.Hops hops ∷ Field.File file ∷ []
 fields_of (Message.FetchReply number reply) = Field.Number number ∷ fields_of_reply reply
@@ -109,7 +111,7 @@ fields_of (Message.ReclaimReply number reply) = Field.Number number ∷ fields_o
 abbrev pub version_of_reply : Reply → Version
 version_of_reply r = if nat_lt (tag_of_reply r) 10 then One else Two
 
-abbrev pub version_of_tombs : List (List ℕ) → Version
+abbrev pub version_of_tombs : List FileId → Version
 version_of_tombs [] = One
 version_of_tombs (tomb ∷ tombs) = Two
 

@@ -1,7 +1,10 @@
 -- Reading a frame from its front to its end, field by field, up to the first refusal that applies.
-use Rattle.std.specs.Prelude.{◌≡◌, ℕ, ◌+◌, ◌-◌, ◌*◌, ◌==◌, nat_lt, nat_le, ◌&&◌, if◌then◌else◌, List, [], ◌∷◌, length, take, drop, map, slice_index, find, Option, Some, None, Result, Ok, Err}
+use Rattle.std.specs.Prelude.{◌≡◌, ℕ, ◌+◌, ◌-◌, ◌*◌, ◌==◌, nat_lt, nat_le, ◌&&◌, if◌then◌else◌, List, [], ◌∷◌, length}
+use Rattle.std.specs.Prelude.{take, drop, map, slice_index, find, Option, Some, None, Result, Ok, Err}
 use Rattle.std.specs.Simd.{first_chunks}
 use Rattle.std.specs.Int.{Width, w8, w16, w32, w64, w128, byte_len, from_be_bytes}
+use Rattle.ring_math.specs.declared.limits.TheConstants.{MOST_BYTES, MOST_ENTRIES, MOST_MEMBERS}
+use Rattle.wire_msg.specs.declared.limits.TheConstants.{MOST_COPIES}
 use Rattle.wire_codec.specs.declared.fault.FrameFault.{FrameFault}
 use Rattle.wire_codec.specs.declared.fault.FrameFault.TheVariants as fault
 use Rattle.wire_codec.specs.declared.kind.Kind.{Kind}
@@ -41,21 +44,21 @@ field_at bytes Form.File place = part_at bytes place 20 >>= λ file. Ok (Field.F
 field_at bytes Form.Number place = number_at bytes w64 place >>= λ n. Ok (Field.Number n, place + 8)
 field_at bytes Form.Attempt place = number_at bytes w32 place >>= λ n. Ok (Field.Attempt n, place + 4)
 field_at bytes Form.Hops place = number_at bytes w16 place >>= λ n. Ok (Field.Hops n, place + 2)
-field_at bytes Form.Copies place = number_within bytes w8 1 9 place >>= λ n. Ok (Field.Copies n, place + 1)
+field_at bytes Form.Copies place = number_within bytes w8 1 MOST_COPIES place >>= λ n. Ok (Field.Copies n, place + 1)
 field_at bytes Form.Bytes place = do
-  n ← number_within bytes w16 0 4096 place
+  n ← number_within bytes w16 0 MOST_BYTES place
   part ← part_at bytes (place + 2) n
   Ok (Field.Bytes part, place + 2 + n)
 field_at bytes Form.Ids place = do
-  n ← number_within bytes w8 0 17 place
+  n ← number_within bytes w8 0 MOST_MEMBERS place
   part ← part_at bytes (place + 1) (16 * n)
   Ok (Field.Ids (map (from_be_bytes w128) (first_chunks 16 n part)), place + 1 + 16 * n)
 field_at bytes Form.Files place = do
-  n ← number_within bytes w16 0 4096 place
+  n ← number_within bytes w16 0 MOST_ENTRIES place
   part ← part_at bytes (place + 2) (20 * n)
   Ok (Field.Files (first_chunks 20 n part), place + 2 + 20 * n)
 field_at bytes Form.Tombs place = do
-  n ← number_within bytes w16 1 4096 place
+  n ← number_within bytes w16 1 MOST_ENTRIES place
   part ← part_at bytes (place + 2) (20 * n)
   Ok (Field.Tombs (first_chunks 20 n part), place + 2 + 20 * n)
 

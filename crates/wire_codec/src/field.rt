@@ -7,7 +7,7 @@ ghost use Rattle.wire_codec.specs.Layouts.{Form};
 ghost use Rattle.wire_codec.specs.Reading.{Reads, part_at, number_at, number_within, field_at};
 
 use crate::fault::FrameFault;
-use ring_math::{FileId, Id};
+use ring_math::{FileId, Id, MOST_BYTES, MOST_ENTRIES, MOST_MEMBERS};
 use wire_msg::Copies;
 
 /// The `N` bytes from the place on.
@@ -26,7 +26,7 @@ pub(crate) fn chunk_at<const N: usize>(bytes: &[u8], place: usize) -> Result<&[u
 /// So many bytes from the place on.
 fn part_at(bytes: &[u8], place: usize, len: usize) -> Result<&[u8], FrameFault>
     requires within { place ≤ length bytes.now }
-    requires small { len ≤ 81920 }
+    requires small { len ≤ 20 * MOST_ENTRIES }
     ensures value { Reads (λ part. part.now) result (part_at bytes.now place len) }
     ensures within { IfOk result (λ part. place + len ≤ length bytes.now) }
 {
@@ -101,19 +101,24 @@ pub(crate) fn byte_within(
     Ok(n)
 }
 
-/// A length or a count of two bytes, from `lowest` to 4,096.
-fn length_within(bytes: &[u8], lowest: u16, place: usize) -> Result<usize, FrameFault>
+/// A length or a count of two bytes, from `lowest` to `highest`.
+fn length_within(
+    bytes: &[u8],
+    lowest: usize,
+    highest: usize,
+    place: usize,
+) -> Result<usize, FrameFault>
     requires { place ≤ length bytes.now }
-    ensures value { Reads (λ n. n) result (number_within bytes.now w16 lowest 4096 place) }
-    ensures range { IfOk result (λ n. (lowest ≤ n) × (n ≤ 4096)) }
+    ensures value { Reads (λ n. n) result (number_within bytes.now w16 lowest highest place) }
+    ensures range { IfOk result (λ n. (lowest ≤ n) × (n ≤ highest)) }
     ensures within { IfOk result (λ n. place + 2 ≤ length bytes.now) }
 {
     let chunk = chunk_at(bytes, place)?;
-    let n = u16::from_be_bytes(*chunk);
-    if n < lowest || n > 4096 {
+    let len = usize::from(u16::from_be_bytes(*chunk));
+    if len < lowest || len > highest {
         return Err(FrameFault::Range { place });
     }
-    Ok(usize::from(n))
+    Ok(len)
 }
 
 pub(crate) fn copies_at(bytes: &[u8], place: usize) -> Result<(Copies, usize), FrameFault>
@@ -131,10 +136,10 @@ pub(crate) fn copies_at(bytes: &[u8], place: usize) -> Result<(Copies, usize), F
 pub(crate) fn bytes_at(bytes: &[u8], place: usize) -> Result<(&[u8], usize), FrameFault>
     requires { place ≤ length bytes.now }
     ensures value { Reads (λ x. (Field.Bytes x.0.now, x.1)) result (field_at bytes.now Form.Bytes place) }
-    ensures limit { IfOk result (λ x. length x.0.now ≤ 4096) }
+    ensures limit { IfOk result (λ x. length x.0.now ≤ MOST_BYTES) }
     ensures within { IfOk result (λ x. x.1 ≤ length bytes.now) }
 {
-    let len = length_within(bytes, 0, place)?;
+    let len = length_within(bytes, 0, MOST_BYTES, place)?;
     let part = part_at(bytes, place + 2, len)?;
     Ok((part, place + 2 + len))
 }
@@ -142,10 +147,10 @@ pub(crate) fn bytes_at(bytes: &[u8], place: usize) -> Result<(&[u8], usize), Fra
 pub(crate) fn ids_at(bytes: &[u8], place: usize) -> Result<(&[[u8; 16]], usize), FrameFault>
     requires { place ≤ length bytes.now }
     ensures value { Reads (λ x. (Field.Ids (map (from_be_bytes w128) x.0.now), x.1)) result (field_at bytes.now Form.Ids place) }
-    ensures limit { IfOk result (λ x. length x.0.now ≤ 17) }
+    ensures limit { IfOk result (λ x. length x.0.now ≤ MOST_MEMBERS) }
     ensures within { IfOk result (λ x. x.1 ≤ length bytes.now) }
 {
-    let count = usize::from(byte_within(bytes, 0, 17, place)?);
+    let count = usize::from(byte_within(bytes, 0, MOST_MEMBERS as u8, place)?);
     let part = part_at(bytes, place + 1, 16 * count)?;
     Ok((part.as_chunks().0, place + 1 + 16 * count))
 }
@@ -153,10 +158,10 @@ pub(crate) fn ids_at(bytes: &[u8], place: usize) -> Result<(&[[u8; 16]], usize),
 pub(crate) fn files_at(bytes: &[u8], place: usize) -> Result<(&[[u8; 20]], usize), FrameFault>
     requires { place ≤ length bytes.now }
     ensures value { Reads (λ x. (Field.Files x.0.now, x.1)) result (field_at bytes.now Form.Files place) }
-    ensures limit { IfOk result (λ x. length x.0.now ≤ 4096) }
+    ensures limit { IfOk result (λ x. length x.0.now ≤ MOST_ENTRIES) }
     ensures within { IfOk result (λ x. x.1 ≤ length bytes.now) }
 {
-    let count = length_within(bytes, 0, place)?;
+    let count = length_within(bytes, 0, MOST_ENTRIES, place)?;
     let part = part_at(bytes, place + 2, 20 * count)?;
     Ok((part.as_chunks().0, place + 2 + 20 * count))
 }
@@ -164,10 +169,10 @@ pub(crate) fn files_at(bytes: &[u8], place: usize) -> Result<(&[[u8; 20]], usize
 pub(crate) fn tombs_at(bytes: &[u8], place: usize) -> Result<(&[[u8; 20]], usize), FrameFault>
     requires { place ≤ length bytes.now }
     ensures value { Reads (λ x. (Field.Tombs x.0.now, x.1)) result (field_at bytes.now Form.Tombs place) }
-    ensures limit { IfOk result (λ x. (1 ≤ length x.0.now) × (length x.0.now ≤ 4096)) }
+    ensures limit { IfOk result (λ x. (1 ≤ length x.0.now) × (length x.0.now ≤ MOST_ENTRIES)) }
     ensures within { IfOk result (λ x. x.1 ≤ length bytes.now) }
 {
-    let count = length_within(bytes, 1, place)?;
+    let count = length_within(bytes, 1, MOST_ENTRIES, place)?;
     let part = part_at(bytes, place + 2, 20 * count)?;
     Ok((part.as_chunks().0, place + 2 + 20 * count))
 }

@@ -1,6 +1,7 @@
 //! How many bytes the fields of a message take.
 
-ghost use Rattle.std.specs.Prelude.{◌≡◌, ◌≤◌};
+ghost use Rattle.std.specs.Prelude.{◌≡◌, ◌≤◌, ◌+◌, ◌*◌};
+ghost use Rattle.ring_math.specs.declared.limits.TheConstants.{MOST_BYTES, MOST_ENTRIES, MOST_MEMBERS};
 ghost use Rattle.wire_msg.specs.Words.{plain};
 ghost use Rattle.wire_codec.specs.Fields.{Field};
 ghost use Rattle.wire_codec.specs.Kinds.{fields_of, fields_of_why, fields_of_reply, fields_of_tombs};
@@ -25,28 +26,28 @@ const TAG: usize = 1;
 
 fn bytes_size(bytes: &Bytes) -> usize
     ensures value { result ≡ size_of (Field.Bytes bytes.now) }
-    ensures limit { result ≤ 4098 }
+    ensures limit { result ≤ 2 + MOST_BYTES }
 {
     2 + bytes.as_slice().len()
 }
 
 fn ids_size(ids: &Ids) -> usize
     ensures value { result ≡ size_of (Field.Ids ids.now) }
-    ensures limit { result ≤ 273 }
+    ensures limit { result ≤ 1 + 16 * MOST_MEMBERS }
 {
     1 + ID * ids.as_slice().len()
 }
 
 fn files_size(files: &FileIds) -> usize
     ensures value { result ≡ size_of (Field.Files files.now.files) }
-    ensures limit { result ≤ 81922 }
+    ensures limit { result ≤ 2 + 20 * MOST_ENTRIES }
 {
     2 + FILE * files.as_slice().len()
 }
 
 fn tombs_size(tombs: &FileIds) -> usize
     ensures value { result ≡ size_of_all (fields_of_tombs tombs.now.files) }
-    ensures limit { result ≤ 81922 }
+    ensures limit { result ≤ 2 + 20 * MOST_ENTRIES }
 {
     if tombs.as_slice().is_empty() {
         0
@@ -68,7 +69,7 @@ fn why_size(why: &Why) -> usize
 
 fn reply_size(reply: &Reply) -> usize
     ensures value { result ≡ size_of_all (fields_of_reply reply.now) }
-    ensures limit { result ≤ 4115 }
+    ensures limit { result ≤ 19 + MOST_BYTES + 16 * MOST_MEMBERS }
 {
     match reply {
         Reply::Delivered { .. } => TAG + ID + HOPS,
@@ -88,7 +89,7 @@ fn reply_size(reply: &Reply) -> usize
 /// The bytes of the fields of the message.
 pub(crate) fn message_size(message: &Message) -> usize
     ensures value { result ≡ size_of_all (fields_of (plain message.now)) }
-    ensures limit { result ≤ 163848 }
+    ensures limit { result ≤ 100 + MOST_BYTES + 16 * MOST_MEMBERS + 40 * MOST_ENTRIES }
 {
     match message {
         Message::Lookup { .. } => ID + NUMBER + ID + HOPS,

@@ -1,5 +1,6 @@
 -- The messages as rules, frames and records see them: those of the code, but for the room of a list of files.
 use Rattle.std.specs.Prelude.{ℕ, List}
+use Rattle.ring_math.specs.Names.{Id, Key, FileId, Content, Attempt, Number, Hops, Stamp}
 use Rattle.wire_msg.specs.declared.reply.Reply.{Reply}
 use Rattle.wire_msg.specs.declared.reply.Why.{Why}
 use Rattle.wire_msg.specs.declared.message.Message.{Message as CodeMessage}
@@ -8,28 +9,28 @@ use Rattle.wire_msg.specs.declared.message.Outgoing.{Outgoing}
 use Rattle.wire_msg.specs.declared.message.Envelope.{Envelope as CodeEnvelope}
 
 pub data Message : Type 0 where
-  Lookup : (origin number key hops : ℕ) → Message
-  LookupReply : (number : ℕ) (reply : Reply) → Message
-  Insert : (origin number hops : ℕ) (file : List ℕ) (copies : ℕ) (bytes : List ℕ) → Message
-  InsertReply : (number : ℕ) (reply : Reply) → Message
-  Fetch : (origin number hops : ℕ) (file : List ℕ) → Message
-  FetchReply : (number : ℕ) (reply : Reply) → Message
-  JoinRequest : (joiner attempt hops : ℕ) → Message
-  JoinReply : (attempt : ℕ) (members : List ℕ) → Message
-  JoinRefuse : (attempt : ℕ) (why : Why) → Message
-  Probe : (attempt : ℕ) → Message
-  ProbeReply : (attempt : ℕ) (members : List ℕ) → Message
-  LeaseRequest : (attempt left right : ℕ) → Message
-  Grant : (attempt : ℕ) (manifest tombs : List (List ℕ)) → Message
-  Deny : (attempt : ℕ) (why : Why) → Message
-  Handover : (file bytes : List ℕ) → Message
-  Release : (attempt : ℕ) → Message
-  Confirm : (attempt : ℕ) → Message
+  Lookup : (origin : Id) (number : Number) (key : Key) (hops : Hops) → Message
+  LookupReply : (number : Number) (reply : Reply) → Message
+  Insert : (origin : Id) (number : Number) (hops : Hops) (file : FileId) (copies : ℕ) (bytes : Content) → Message
+  InsertReply : (number : Number) (reply : Reply) → Message
+  Fetch : (origin : Id) (number : Number) (hops : Hops) (file : FileId) → Message
+  FetchReply : (number : Number) (reply : Reply) → Message
+  JoinRequest : (joiner : Id) (attempt : Attempt) (hops : Hops) → Message
+  JoinReply : (attempt : Attempt) (members : List Id) → Message
+  JoinRefuse : (attempt : Attempt) (why : Why) → Message
+  Probe : (attempt : Attempt) → Message
+  ProbeReply : (attempt : Attempt) (members : List Id) → Message
+  LeaseRequest : (attempt : Attempt) (left right : Id) → Message
+  Grant : (attempt : Attempt) (manifest tombs : List FileId) → Message
+  Deny : (attempt : Attempt) (why : Why) → Message
+  Handover : (file : FileId) (bytes : Content) → Message
+  Release : (attempt : Attempt) → Message
+  Confirm : (attempt : Attempt) → Message
   Announce : Message
-  Replicate : (origin number : ℕ) (file bytes : List ℕ) → Message
-  ReplicaAck : (origin number : ℕ) (file : List ℕ) → Message
-  Reclaim : (origin number hops : ℕ) (file : List ℕ) → Message
-  ReclaimReply : (number : ℕ) (reply : Reply) → Message
+  Replicate : (origin : Id) (number : Number) (file : FileId) (bytes : Content) → Message
+  ReplicaAck : (origin : Id) (number : Number) (file : FileId) → Message
+  Reclaim : (origin : Id) (number : Number) (hops : Hops) (file : FileId) → Message
+  ReclaimReply : (number : Number) (reply : Reply) → Message
 
 -- without the room of its lists of files
 abbrev pub plain : CodeMessage → Message
@@ -58,7 +59,7 @@ plain (code.ReclaimReply number reply) = ReclaimReply number reply
 
 -- a message to a node
 pub record Sent : Type 0 where
-  pub receiver : ℕ
+  pub receiver : Id
   pub message : Message
 
 abbrev pub plain_sent : Outgoing → Sent
@@ -66,9 +67,9 @@ plain_sent o = record { receiver = o.receiver; message = plain o.message }
 
 -- a message on its way, with the stamp of the entry that sent it
 pub record Envelope : Type 0 where
-  pub sender : ℕ
-  pub receiver : ℕ
-  pub stamp : ℕ
+  pub sender : Id
+  pub receiver : Id
+  pub stamp : Stamp
   pub message : Message
 
 abbrev pub plain_envelope : CodeEnvelope → Envelope

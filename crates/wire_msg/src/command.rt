@@ -2,32 +2,34 @@
 
 ghost use Rattle.std.specs.Prelude.{◌≡◌, ◌<◌, ◌≤◌, ◌⊎◌, IfOk, MatchOption};
 
+use crate::limits::MOST_COPIES;
 use ring_math::{Bytes, FileId, Id, OutOfMemory};
 use std::alloc::Global;
 use std::marker::Model;
 
-/// How many copies an insert asks for, 1 to 9.
+/// How many copies an insert asks for, 1 to [`MOST_COPIES`].
 #[derive(Clone, Copy, PartialEq, Eq, Debug)]
 pub struct Copies(u8);
 
 impl Model for Copies {
     ghost use Rattle.std.specs.Prelude.{ℕ, ◌≤◌};
+    ghost use Rattle.wire_msg.specs.declared.limits.TheConstants.{MOST_COPIES};
 
     ghost Value = { ℕ };
 
     ghost view = { λ a. a.0 };
 
-    ghost invariant = { λ a. (1 ≤ a.0) × (a.0 ≤ 9) };
+    ghost invariant = { λ a. (1 ≤ a.0) × (a.0 ≤ MOST_COPIES) };
 
     ghost inverse = { λ n. record { 0 = n } };
 }
 
 impl Copies {
-    /// A number of copies, None exactly where it is not 1 to 9.
+    /// A number of copies, None exactly where it is not 1 to [`MOST_COPIES`].
     pub fn new(n: u8) -> Option<Copies>
-        ensures { MatchOption result ((n < 1) ⊎ (9 < n)) (λ copies. (copies ≡ n) × (1 ≤ n) × (n ≤ 9)) }
+        ensures { MatchOption result ((n < 1) ⊎ (MOST_COPIES < n)) (λ copies. (copies ≡ n) × (1 ≤ n) × (n ≤ MOST_COPIES)) }
     {
-        if n >= 1 && n <= 9 {
+        if n >= 1 && n <= MOST_COPIES {
             Some(Copies(n))
         } else {
             None
@@ -36,7 +38,7 @@ impl Copies {
 
     pub fn get(self) -> u8
         ensures value { result ≡ self }
-        ensures range { (1 ≤ self) × (self ≤ 9) }
+        ensures range { (1 ≤ self) × (self ≤ MOST_COPIES) }
     {
         self.0
     }

@@ -3,6 +3,7 @@
 
 mod command;
 mod frame;
+mod limits;
 mod lists;
 mod message;
 mod note;
@@ -10,6 +11,7 @@ mod reply;
 
 pub use command::{Command, Copies};
 pub use frame::Frame;
+pub use limits::{LAST_ATTEMPT, MOST_COPIES, MOST_HOPS, MOST_TARGETS};
 pub use lists::{Envelopes, Notes, Sends};
 pub use message::{Envelope, Message, Outgoing};
 pub use note::Note;

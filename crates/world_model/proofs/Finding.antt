@@ -1,5 +1,6 @@
 -- The map that finds the place of an identifier.
-use Rattle.std.proofs.Common.{◌≡◌, ◌≢◌, ◌<◌, ◌==◌, ℕ, zero, suc, ◌+◌, Bool, true, false, cond, not, ◌&&◌, ◌||◌, Some, List, [], ◌∷◌, length, get_or, slice_index, refl, sym, ap, ◌∙◌, arith}
+use Rattle.std.proofs.Common.{◌≡◌, ◌≢◌, ◌<◌, ◌==◌, ℕ, zero, suc, ◌+◌, Bool, true, false, cond, not, ◌&&◌, ◌||◌, Some, List, [], ◌∷◌, length, get_or}
+use Rattle.std.proofs.Common.{slice_index, refl, sym, ap, ◌∙◌, arith}
 use Rattle.std.specs.Ordering.{nat_cmp}
 use Rattle.std.specs.Cmp.{unsigned_tied}
 use Rattle.std.specs.BTreeMap.{BTreeMap, get, is_at}
@@ -63,7 +64,9 @@ FindsTo-more m m' ids n d l f u = record {
 
   lower : (k : ℕ) → k < n + 1 → slice_index ids n == slice_index ids k ≡ false → k < n
   lower k h t = by_test {P = k < n} (k == n)
-      (λ q. let e : k ≡ n = (Decides-eqb k n).0 q in let g : slice_index ids n == slice_index ids k ≡ true = (Decides-eqb (slice_index ids n) (slice_index ids k)).1 (ap (slice_index ids) (sym e)) in absurd (cc))
+      (λ q. let e : k ≡ n = (Decides-eqb k n).0 q in
+      let g : slice_index ids n == slice_index ids k ≡ true =
+      (Decides-eqb (slice_index ids n) (slice_index ids k)).1 (ap (slice_index ids) (sym e)) in absurd (cc))
       (λ q. let ne : k ≢ n = λ e. let f : k == n ≡ true = (Decides-eqb k n).1 e in cc in omega arith)
 
 -- no two places have one identifier

@@ -1,5 +1,6 @@
 -- The messages of a record that has one entry more.
-use Rattle.std.proofs.Common.{◌≡◌, ◌≢◌, ◌<◌, ◌≤◌, ◌==◌, ℕ, zero, suc, ◌+◌, ◌-◌, Bool, true, false, cond, ◌||◌, Option, Some, None, List, [], ◌∷◌, ◌++◌, length, map, get_or, slice_get, slice_set, replicate, nat_lt, refl, sym, ap, subst, ◌∙◌, arith, length-append, zero-add, add-zero}
+use Rattle.std.proofs.Common.{◌≡◌, ◌≢◌, ◌<◌, ◌≤◌, ◌==◌, ℕ, zero, suc, ◌+◌, ◌-◌, Bool, true, false, cond, ◌||◌, Option, Some, None, List, [], ◌∷◌, ◌++◌, length}
+use Rattle.std.proofs.Common.{map, get_or, slice_get, slice_set, replicate, nat_lt, refl, sym, ap, subst, ◌∙◌, arith, length-append, zero-add, add-zero}
 use Rattle.std.proofs.lemmas.Bool.{ltb-true, ltb-false}
 use Rattle.std.proofs.lemmas.Bool.Decides.{Decides-eqb}
 use Rattle.std.proofs.lemmas.List.Folds.{list_any-append}
@@ -66,7 +67,8 @@ entry-found None i v h = cc
 entry-found (Some e) i v h = (e, refl, h)
 
 -- the entry of a spot, and its envelope there
-pub spot-found : (es : List Entry) (p : Spot) (v : Envelope) → envelope_at es p ≡ Some v → (e : Entry) × (slice_get es p.entry ≡ Some e) × (slice_get e.messages p.place ≡ Some v)
+pub spot-found : (es : List Entry) (p : Spot) (v : Envelope) → envelope_at es p ≡ Some v →
+    (e : Entry) × (slice_get es p.entry ≡ Some e) × (slice_get e.messages p.place ≡ Some v)
 spot-found es p v h = entry-found (slice_get es p.entry) p.place v h
 
 envelope-kept : (es fs : List Entry) (p : Spot) (v : Envelope) → envelope_at es p ≡ Some v → envelope_at (es ++ fs) p ≡ Some v
@@ -74,7 +76,8 @@ envelope-kept es fs p v h =
     let f = spot-found es p v h in
     ap (λ o. slice_get (messages_of o) p.place) (get-kept es fs p.entry f.0 f.1) ∙ f.2
 
-HasSpots-more : (spots : List Spot) (es : List Entry) (e : Entry) → HasSpots spots es → HasSpots (spots ++ spots_from (length es) 0 (length e.messages)) (es ++ e ∷ [])
+HasSpots-more : (spots : List Spot) (es : List Entry) (e : Entry) → HasSpots spots es →
+    HasSpots (spots ++ spots_from (length es) 0 (length e.messages)) (es ++ e ∷ [])
 HasSpots-more spots es e h = record {
   count =
       let a = length-append spots (spots_from (length es) 0 (length e.messages)) in
@@ -90,7 +93,8 @@ HasSpots-more spots es e h = record {
       let was : slice_get spots m ≡ Some p = sym (slice_get-more spots (spots_from (length es) 0 (length e.messages)) m l) ∙ g in
       let c = h.count in
       let sent = get-some (sent_in es) m (omega arith) in
-      envelope-kept es (e ∷ []) p sent.0 (h.each m p was ∙ sent.1) ∙ sym (ap (λ vs. slice_get vs m) (sent_in-push es e) ∙ get-kept (sent_in es) e.messages m sent.0 sent.1)
+      envelope-kept es (e ∷ []) p sent.0 (h.each m p was ∙ sent.1)
+      ∙ sym (ap (λ vs. slice_get vs m) (sent_in-push es e) ∙ get-kept (sent_in es) e.messages m sent.0 sent.1)
 
   new : (m : ℕ) (p : Spot) → slice_get (spots ++ spots_from (length es) 0 (length e.messages)) m ≡ Some p → length spots ≤ m →
       envelope_at (es ++ e ∷ []) p ≡ slice_get (sent_in (es ++ e ∷ [])) m
@@ -100,9 +104,11 @@ HasSpots-more spots es e h = record {
       let c = h.count in
       let at' : m ≡ length (sent_in es) + j = omega arith in
       let got : slice_get (spots_from (length es) 0 (length e.messages)) j ≡ Some p =
-      sym (get-beyond spots (spots_from (length es) 0 (length e.messages)) j) ∙ ap (λ i. slice_get (spots ++ spots_from (length es) 0 (length e.messages)) i) (sym at) ∙ g in
+      sym (get-beyond spots (spots_from (length es) 0 (length e.messages)) j)
+      ∙ ap (λ i. slice_get (spots ++ spots_from (length es) 0 (length e.messages)) i) (sym at) ∙ g in
       let z : 0 + j ≡ j = omega arith in
-      let is : p ≡ record { entry = length es; place = j } = spots_from-get (length es) 0 (length e.messages) j p got ∙ ap (λ i. record { entry = length es; place = i }) z in
+      let is : p ≡ record { entry = length es; place = j } =
+      spots_from-get (length es) 0 (length e.messages) j p got ∙ ap (λ i. record { entry = length es; place = i }) z in
       ap (envelope_at (es ++ e ∷ [])) is ∙ ap (λ o. slice_get (messages_of o) j) (slice_get-last es e)
       ∙ sym (ap (λ vs. slice_get vs m) (sent_in-push es e) ∙ ap (λ i. slice_get (sent_in es ++ e.messages) i) at' ∙ get-beyond (sent_in es) e.messages j)
 
@@ -172,12 +178,15 @@ HasMarks-more marks es e l h = record {
 -- ---- the oldest
 
 -- what was marked stays so
-still-marked : (v : Event) (xs : List Bool) (n m : ℕ) → DeliversBelow (length xs) v → get_or xs m false ≡ true → get_or (marked v xs ++ replicate n false) m false ≡ true
+still-marked : (v : Event) (xs : List Bool) (n m : ℕ) → DeliversBelow (length xs) v → get_or xs m false ≡ true →
+    get_or (marked v xs ++ replicate n false) m false ≡ true
 still-marked v xs n m l e = read-more (marked v xs) n m ∙ read-marked v xs m l ∙ ap (λ b. b || is_delivery_of m v) e
 
 pub ListsMessages-more : (a b : Messages) (es : List Entry) (e : Entry) → DeliversBelow (length a.delivered.items) e.event →
-    b.spots.items ≡ a.spots.items ++ spots_from (length es) 0 (length e.messages) → b.delivered.items ≡ marked e.event a.delivered.items ++ replicate (length e.messages) false →
-    b.oldest ≤ length b.delivered.items → ((m : ℕ) → a.oldest ≤ m → m < b.oldest → get_or b.delivered.items m false ≡ true) → get_or b.delivered.items b.oldest false ≡ false →
+    b.spots.items ≡ a.spots.items ++ spots_from (length es) 0 (length e.messages) →
+    b.delivered.items ≡ marked e.event a.delivered.items ++ replicate (length e.messages) false →
+    b.oldest ≤ length b.delivered.items → ((m : ℕ) → a.oldest ≤ m → m < b.oldest → get_or b.delivered.items m false ≡ true) →
+    get_or b.delivered.items b.oldest false ≡ false →
     ListsMessages a es → ListsMessages b (es ++ e ∷ [])
 ListsMessages-more a b es e l spots marks within before here h = record {
   spots = subst (λ ps. HasSpots ps (es ++ e ∷ [])) (sym spots) (HasSpots-more a.spots.items es e h.spots);
@@ -192,7 +201,8 @@ ListsMessages-more a b es e l spots marks within before here h = record {
 }
 
 -- those before were delivered
-undelivered-skip : (w : World) (m k n : ℕ) → ((j : ℕ) → m ≤ j → j < m + k → is_delivered w.past j ≡ true) → undelivered_from w m (k + n) ≡ undelivered_from w (m + k) n
+undelivered-skip : (w : World) (m k n : ℕ) → ((j : ℕ) → m ≤ j → j < m + k → is_delivered w.past j ≡ true) →
+    undelivered_from w m (k + n) ≡ undelivered_from w (m + k) n
 undelivered-skip w m zero n h = ap (undelivered_from w m) (zero-add n) ∙ sym (ap (λ k. undelivered_from w k n) (add-zero m))
 undelivered-skip w m (suc k) n h =
     let a : suc k + n ≡ suc (k + n) = omega arith in
@@ -260,7 +270,8 @@ module _ (es : List Entry) (m : ℕ) (p : Spot) (l : Lies es m p) where
       let within = get-within (map plain_envelope xs) p.place l.envelope has in
       omega arith
 
-  pub Lies-sent : (e : Entry) (xs : List CodeEnvelope) (x : CodeEnvelope) → e ≡ get_or es p.entry e → map plain_envelope xs ≡ e.messages → x ≡ get_or xs p.place x →
+  pub Lies-sent : (e : Entry) (xs : List CodeEnvelope) (x : CodeEnvelope) → e ≡ get_or es p.entry e → map plain_envelope xs ≡ e.messages →
+      x ≡ get_or xs p.place x →
       slice_get (sent_in es) m ≡ Some (plain_envelope x)
   Lies-sent e xs x r s t =
       let same : e.messages ≡ l.entry.messages = ap (λ (d : Entry). d.messages) (Lies-read e r) in

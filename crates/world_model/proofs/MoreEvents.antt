@@ -1,5 +1,6 @@
 -- A record with one event more: it is legal, and the world after it is the world in which the event has happened.
-use Rattle.std.proofs.Common.{◌≡◌, ◌<◌, ◌+◌, ℕ, suc, Option, Some, None, List, [], ◌∷◌, ◌++◌, map, All, Contains, length, get_or, slice_get, slice_index, refl, sym, subst, ap, ◌∙◌, arith}
+use Rattle.std.proofs.Common.{◌≡◌, ◌<◌, ◌+◌, ℕ, suc, Option, Some, None, List, [], ◌∷◌, ◌++◌, map, All, Contains, length, get_or, slice_get, slice_index, refl}
+use Rattle.std.proofs.Common.{sym, subst, ap, ◌∙◌, arith}
 use Rattle.std.proofs.lemmas.List.Elements.{All-push, All-weaker, All-nil, All-cons}
 use Rattle.wire_msg.specs.Words.{Envelope, Sent}
 use Rattle.overlay_rules.specs.declared.entry.Event.{Event}
@@ -7,11 +8,12 @@ use Rattle.overlay_rules.specs.declared.entry.Event.TheVariants as event
 use Rattle.overlay_rules.specs.declared.entry.Entry.{Entry}
 use Rattle.overlay_rules.specs.Outcome.{Input}
 use Rattle.overlay_rules.specs.Step.{step}
-use Rattle.overlay_rules.specs.Record.{World, visit, visit_of, sent_in, unstamped, enveloped, IsSaidBy, IsFresh, IsFreshAfter, Follows, IsRecord, states_after, state_at, world_at_start}
+use Rattle.overlay_rules.specs.Record.{World, visit, visit_of, sent_in, unstamped, enveloped, IsSaidBy, IsFresh, IsFreshAfter, Follows, IsRecord, states_after}
+use Rattle.overlay_rules.specs.Record.{state_at, world_at_start}
 use Rattle.overlay_rules.specs.Played.{entry_at, entry_of, happened, oldest_undelivered}
 use Rattle.overlay_rules.proofs.Histories.{run-push, past_of_run, LegalFrom-push}
 use Rattle.world_model.specs.Recorded.{Recorded, setting_of, world_of, with_event}
-use Rattle.ring_laws.specs.Receivers.{ViaIs, ViasAre}
+use Rattle.step_facts.specs.Receivers.{ViaIs, ViasAre}
 use Rattle.world_model.specs.Numbers.{IsNumberedBelow, IsNewest}
 use Rattle.world_model.specs.Stamps.{AreStamped, AreStampedFrom}
 use Rattle.world_model.specs.Worlds.{IsWorld, ComesTo, entry_by}
@@ -52,7 +54,8 @@ unstamped-all : (n x : ℕ) (ss : List Sent) → map unstamped (map (enveloped n
 unstamped-all n x [] = refl
 unstamped-all n x (s ∷ ss) = ap (λ vs. enveloped 0 x s ∷ vs) (unstamped-all n x ss)
 
-follows : (r : Recorded) (v : Event) (x : ℕ) (i : Input) → visit (sent_in r.entries) v ≡ Some (record { node = x; input = i }) → Contains r.nodes x → IsFresh r.entries v →
+follows : (r : Recorded) (v : Event) (x : ℕ) (i : Input) → visit (sent_in r.entries) v ≡ Some (record { node = x; input = i }) → Contains r.nodes x →
+    IsFresh r.entries v →
     Follows (setting_of r) (world_of r) (entry_of (world_of r) v)
 follows r v x i e c f =
     subst (Follows (setting_of r) (world_of r)) (sym (entry-of r v x i e))
@@ -65,10 +68,12 @@ follows r v x i e c f =
       notes = refl;
     })
 
-event-of : (r : Recorded) (v : Event) (x : ℕ) (i : Input) → visit (sent_in r.entries) v ≡ Some (record { node = x; input = i }) → (entry_of (world_of r) v).event ≡ v
+event-of : (r : Recorded) (v : Event) (x : ℕ) (i : Input) → visit (sent_in r.entries) v ≡ Some (record { node = x; input = i }) →
+    (entry_of (world_of r) v).event ≡ v
 event-of r v x i e = ap (λ (d : Entry). d.event) (entry-of r v x i e)
 
-pub record-with_event : (r : Recorded) (v : Event) (x : ℕ) (i : Input) → visit (sent_in r.entries) v ≡ Some (record { node = x; input = i }) → Contains r.nodes x → IsFresh r.entries v → IsSaidBy v →
+pub record-with_event : (r : Recorded) (v : Event) (x : ℕ) (i : Input) → visit (sent_in r.entries) v ≡ Some (record { node = x; input = i }) →
+    Contains r.nodes x → IsFresh r.entries v → IsSaidBy v →
     IsRecord (setting_of r) r.entries → IsRecord (setting_of r) (with_event r v).entries
 record-with_event r v x i e c f s h = record {
   setting = h.setting;
@@ -76,9 +81,11 @@ record-with_event r v x i e c f s h = record {
   legal = LegalFrom-push (setting_of r) (world_at_start (setting_of r)) r.entries (entry_of (world_of r) v) h.legal (follows r v x i e c f);
 }
 
-pub vias-with_event : (r : Recorded) (v : Event) (x : ℕ) (i : Input) → visit (sent_in r.entries) v ≡ Some (record { node = x; input = i }) → ViaIs (setting_of r) v →
+pub vias-with_event : (r : Recorded) (v : Event) (x : ℕ) (i : Input) → visit (sent_in r.entries) v ≡ Some (record { node = x; input = i }) →
+    ViaIs (setting_of r) v →
     ViasAre (setting_of r) r.entries → ViasAre (setting_of r) (with_event r v).entries
-vias-with_event r v x i e a h = All-push (λ (d : Entry). ViaIs (setting_of r) d.event) r.entries (entry_of (world_of r) v) h (subst (ViaIs (setting_of r)) (sym (event-of r v x i e)) a)
+vias-with_event r v x i e a h = All-push (λ (d : Entry). ViaIs (setting_of r) d.event) r.entries (entry_of (world_of r) v) h
+    (subst (ViaIs (setting_of r)) (sym (event-of r v x i e)) a)
 
 -- the newest number is no other command's
 pub IsFresh-newest : (past : List Entry) (x n : ℕ) (c : _) → IsNewest n past → IsFresh past (event.Command x n c)
@@ -94,11 +101,14 @@ stamped-all : (n x : ℕ) (ss : List Sent) → All (λ (v : Envelope). v.stamp �
 stamped-all n x [] = All-nil (λ (v : Envelope). v.stamp ≡ n)
 stamped-all n x (s ∷ ss) = All-cons (λ (v : Envelope). v.stamp ≡ n) (enveloped n x s) (map (enveloped n x) ss) refl (stamped-all n x ss)
 
-stamped-push : (n : ℕ) (es : List Entry) (e : Entry) → AreStampedFrom n es → All (λ (v : Envelope). v.stamp ≡ n + length es) e.messages → AreStampedFrom n (es ++ e ∷ [])
+stamped-push : (n : ℕ) (es : List Entry) (e : Entry) → AreStampedFrom n es → All (λ (v : Envelope). v.stamp ≡ n + length es) e.messages →
+    AreStampedFrom n (es ++ e ∷ [])
 stamped-push n [] e h a = let z : n + 0 ≡ n = omega arith in (subst (λ k. All (λ (v : Envelope). v.stamp ≡ k) e.messages) z a, tt)
-stamped-push n (d ∷ es) e h a = let z : n + suc (length es) ≡ suc n + length es = omega arith in (h.0, stamped-push (suc n) es e h.1 (subst (λ k. All (λ (v : Envelope). v.stamp ≡ k) e.messages) z a))
+stamped-push n (d ∷ es) e h a = let z : n + suc (length es) ≡ suc n + length es =
+    omega arith in (h.0, stamped-push (suc n) es e h.1 (subst (λ k. All (λ (v : Envelope). v.stamp ≡ k) e.messages) z a))
 
-pub stamps-with_event : (r : Recorded) (v : Event) (x : ℕ) (i : Input) → visit (sent_in r.entries) v ≡ Some (record { node = x; input = i }) → AreStamped r.entries → AreStamped (with_event r v).entries
+pub stamps-with_event : (r : Recorded) (v : Event) (x : ℕ) (i : Input) → visit (sent_in r.entries) v ≡ Some (record { node = x; input = i }) →
+    AreStamped r.entries → AreStamped (with_event r v).entries
 stamps-with_event r v x i e h =
     subst (λ (d : Entry). AreStamped (r.entries ++ d ∷ [])) (sym (entry-of r v x i e))
     (let n : length r.entries + 1 ≡ 1 + length r.entries = omega arith in
@@ -111,9 +121,11 @@ stamps-with_event r v x i e h =
 pub oldest-of : (r : Recorded) (a : Messages) → ListsMessages a r.entries → oldest_of a ≡ oldest_undelivered (world_of r)
 oldest-of r a h = oldest-listed (world_of r) a (subst (ListsMessages a) (sym (past-of r)) h)
 
-pub IsWorld-with_event : (nodes new : List Node) (a b : Messages) (r : Recorded) (v : Event) (place : ℕ) (i : Input) → IsWorld nodes a r → ComesTo r v place i → IsFresh r.entries v → IsSaidBy v → ViaIs (setting_of r) v →
+pub IsWorld-with_event : (nodes new : List Node) (a b : Messages) (r : Recorded) (v : Event) (place : ℕ) (i : Input) → IsWorld nodes a r → ComesTo r v place i →
+    IsFresh r.entries v → IsSaidBy v → ViaIs (setting_of r) v →
     AllStand new (state_at (world_of r).states (slice_index r.nodes place) (step ((world_of r).states (slice_index r.nodes place)) i).state) →
-    ListsMessages b (r.entries ++ entry_by (length r.entries + 1) (slice_index r.nodes place) v (step ((world_of r).states (slice_index r.nodes place)) i) ∷ []) →
+    ListsMessages b (r.entries ++ entry_by (length r.entries + 1) (slice_index r.nodes place) v (step ((world_of r).states (slice_index r.nodes place)) i) ∷ [])
+    →
     IsWorld new b (with_event r v)
 IsWorld-with_event nodes new a b r v place i w c f s m st l =
     let x : ℕ = slice_index r.nodes place in
@@ -132,7 +144,8 @@ IsWorld-with_event nodes new a b r v place i w c f s m st l =
 -- an event comes from what was sent
 pub comes-below : (r : Recorded) (v : Event) (place : ℕ) (i : Input) → ComesTo r v place i → DeliversBelow (length (sent_in r.entries)) v
 comes-below r (event.Deliver m) place i c = found (slice_get (sent_in r.entries) m) refl c.is_at where
-  found : (o : Option Envelope) → slice_get (sent_in r.entries) m ≡ o → visit_of o ≡ Some (record { node = slice_index r.nodes place; input = i }) → m < length (sent_in r.entries)
+  found : (o : Option Envelope) → slice_get (sent_in r.entries) m ≡ o → visit_of o ≡ Some (record { node = slice_index r.nodes place; input = i }) →
+      m < length (sent_in r.entries)
   found None h k = cc
   found (Some v) h k = get-within (sent_in r.entries) m v h
 comes-below r (event.Command x n d) place i c = tt

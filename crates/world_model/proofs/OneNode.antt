@@ -1,5 +1,6 @@
 -- One node of a world changes: the others stand for what they stood for.
-use Rattle.std.proofs.Common.{◌≡◌, ◌≢◌, ◌<◌, ◌==◌, ℕ, zero, suc, Bool, true, false, List, [], ◌∷◌, ◌++◌, length, get_or, refl, sym, ap, subst, ◌∙◌, arith, get_or-set_same, get_or-set_other}
+use Rattle.std.proofs.Common.{◌≡◌, ◌≢◌, ◌<◌, ◌==◌, ℕ, zero, suc, Bool, true, false, List, [], ◌∷◌, ◌++◌, length, get_or, refl, sym, ap, subst, ◌∙◌, arith}
+use Rattle.std.proofs.Common.{get_or-set_same, get_or-set_other}
 use Rattle.std.proofs.Math.ListN.{set, length-set}
 use Rattle.std.proofs.lemmas.Bool.Decides.{Decides-eqb}
 use Rattle.overlay_rules.specs.State.{State}
@@ -31,7 +32,8 @@ pub ids-push : (nodes : List Node) (n : Node) → ids_of (nodes ++ n ∷ []) ≡
 ids-push [] n = refl
 ids-push (m ∷ ms) n = ap (λ ids. m.me ∷ ids) (ids-push ms n)
 
-pub stand-at : (nodes : List Node) (states : ℕ → State) (i : ℕ) (x : Node) → AllStand nodes states → i < length nodes → x ≡ get_or nodes i x → Stands x (states x.me)
+pub stand-at : (nodes : List Node) (states : ℕ → State) (i : ℕ) (x : Node) → AllStand nodes states → i < length nodes → x ≡ get_or nodes i x →
+    Stands x (states x.me)
 stand-at nodes states i x a l r = subst (λ (n : Node). Stands n (states n.me)) (sym r) (a.each i x l)
 
 pub all-set : (nodes : List Node) (old states : ℕ → State) (i : ℕ) (new : Node) → AllStand nodes old → i < length nodes → Stands new (states new.me) →
@@ -48,7 +50,8 @@ all-set nodes old states i new a l s same =
     }
 
 -- the node at a place changes, and the world's state of it
-pub all-changed : (nodes : List Node) (states : ℕ → State) (i : ℕ) (x new : Node) (t : State) → AreDifferent nodes → AllStand nodes states → i < length nodes → x ≡ get_or nodes i x →
+pub all-changed : (nodes : List Node) (states : ℕ → State) (i : ℕ) (x new : Node) (t : State) → AreDifferent nodes → AllStand nodes states → i < length nodes →
+    x ≡ get_or nodes i x →
     new.me ≡ x.me → Stands new t → AllStand (set nodes i new) (state_at states (id_at nodes i) t)
 all-changed nodes states i x new t ds a l r m s =
     let e : id_at nodes i ≡ x.me = id-read nodes i x l ∙ ap (λ (n : Node). n.me) (sym r) in
@@ -60,7 +63,8 @@ all-changed nodes states i x new t ds a l r m s =
 -- a node more stands
 pub all-push : (nodes : List Node) (states : ℕ → State) (n : Node) → AllStand nodes states → Stands n (states n.me) → AllStand (nodes ++ n ∷ []) states
 all-push nodes states n a s = record { each = λ k d h. at nodes k d n states (λ j e l. a.each j e l) s h } where
-  at : (ns : List Node) (k : ℕ) (d n : Node) (states : ℕ → State) → ((j : ℕ) (e : Node) → j < length ns → Stands (get_or ns j e) (states (get_or ns j e).me)) → Stands n (states n.me) →
+  at : (ns : List Node) (k : ℕ) (d n : Node) (states : ℕ → State) → ((j : ℕ) (e : Node) → j < length ns → Stands (get_or ns j e) (states (get_or ns j e).me)) →
+      Stands n (states n.me) →
       k < length (ns ++ n ∷ []) → Stands (get_or (ns ++ n ∷ []) k d) (states (get_or (ns ++ n ∷ []) k d).me)
   at [] zero d n states a s h = s
   at [] (suc k) d n states a s h = absurd (omega arith)

@@ -1,6 +1,7 @@
 -- The nodes of a world stand for its states, and each is found by its identifier.
 use Rattle.std.specs.Prelude.{◌≡◌, ◌<◌, ℕ, Some, List, [], ◌∷◌, length, slice_index, slice_index_or}
 use Rattle.std.specs.Ordering.{nat_cmp}
+use Rattle.ring_math.specs.Names.{Id}
 use Rattle.std.specs.BTreeMap.{BTreeMap, get}
 use Rattle.overlay_rules.specs.State.{State}
 use Rattle.node_parts.specs.declared.node.Node.{Node}
@@ -8,15 +9,15 @@ use Rattle.node_parts.specs.declared.change.Change.{Change}
 use Rattle.node_parts.specs.Fits.{Fits}
 use Rattle.node_parts.specs.Seen.{Stands}
 
-abbrev pub ids_of : List Node → List ℕ
+abbrev pub ids_of : List Node → List Id
 ids_of [] = []
 ids_of (n ∷ ns) = n.me ∷ ids_of ns
 
-abbrev pub id_at : List Node → ℕ → ℕ
+abbrev pub id_at : List Node → ℕ → Id
 id_at nodes place = slice_index (ids_of nodes) place
 
 -- each node stands for the state of its identifier
-pub record AllStand (nodes : List Node) (states : ℕ → State) : Type 0 where
+pub record AllStand (nodes : List Node) (states : Id → State) : Type 0 where
   pub each : (k : ℕ) (d : Node) → k < length nodes → Stands (slice_index_or nodes k d) (states (slice_index_or nodes k d).me)
 
 -- the node at this place has room for the change
@@ -24,7 +25,7 @@ pub record FitsAt (nodes : List Node) (place : ℕ) (c : Change) : Type 0 where
   pub fits : (d : Node) → Fits (slice_index_or nodes place d) c
 
 -- the map has the place of each identifier
-pub record Finds (places : BTreeMap ℕ ℕ) (ids : List ℕ) : Type 0 where
+pub record Finds (places : BTreeMap Id ℕ) (ids : List Id) : Type 0 where
   pub at : (k : ℕ) → k < length ids → get nat_cmp places (slice_index ids k) ≡ Some k
 
 -- no two places have one identifier

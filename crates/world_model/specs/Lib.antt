@@ -2,6 +2,5 @@ pub mod Recorded
 pub mod Numbers
 pub mod Stamps
 pub mod Cells
-pub mod Envelopes
 pub mod Index
 pub mod Worlds

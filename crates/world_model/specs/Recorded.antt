@@ -1,13 +1,14 @@
 -- What a world is seen as: its setting and its record.
-use Rattle.std.specs.Prelude.{ℕ, List, [], ◌∷◌, ◌++◌}
+use Rattle.std.specs.Prelude.{List, [], ◌∷◌, ◌++◌}
+use Rattle.ring_math.specs.Names.{Id}
 use Rattle.overlay_rules.specs.declared.entry.Event.{Event}
 use Rattle.overlay_rules.specs.declared.entry.Entry.{Entry}
 use Rattle.overlay_rules.specs.Record.{Setting, World, world_at_start, run}
 use Rattle.overlay_rules.specs.Played.{entry_of}
 
 pub record Recorded : Type 0 where
-  pub nodes : List ℕ
-  pub founder : ℕ
+  pub nodes : List Id
+  pub founder : Id
   pub entries : List Entry
 
 abbrev pub setting_of : Recorded → Setting

@@ -1,12 +1,13 @@
 -- What a world keeps, and what a step in it makes.
 use Rattle.std.specs.Prelude.{◌≡◌, ◌<◌, ℕ, Some, List, length, slice_index, map}
+use Rattle.ring_math.specs.Names.{Id, Stamp}
 use Rattle.overlay_rules.specs.declared.entry.Event.{Event}
 use Rattle.overlay_rules.specs.declared.entry.Entry.{Entry}
 use Rattle.overlay_rules.specs.State.{State}
 use Rattle.overlay_rules.specs.Outcome.{Input, Outcome}
 use Rattle.overlay_rules.specs.Step.{step}
 use Rattle.overlay_rules.specs.Record.{IsRecord, sent_in, visit, enveloped}
-use Rattle.ring_laws.specs.Receivers.{ViasAre}
+use Rattle.step_facts.specs.Receivers.{ViasAre}
 use Rattle.node_parts.specs.declared.node.Node.{Node}
 use Rattle.node_parts.specs.Change.{changed}
 use Rattle.node_parts.specs.Sound.{IsSound}
@@ -31,11 +32,11 @@ pub record ComesTo (r : Recorded) (v : Event) (place : ℕ) (i : Input) : Type 0
   pub is_at : visit (sent_in r.entries) v ≡ Some (record { node = slice_index r.nodes place; input = i })
 
 -- the entry of a step of node x
-abbrev pub entry_by : ℕ → ℕ → Event → Outcome → Entry
+abbrev pub entry_by : Stamp → Id → Event → Outcome → Entry
 entry_by stamp x v o = record { event = v; messages = map (enveloped stamp x) o.sends; notes = o.notes }
 
 -- the change and the entry are those of the step of node x
-pub record IsPlanned (states : ℕ → State) (x : ℕ) (i : Input) (stamp : ℕ) (v : Event) (p : Planned) : Type 0 where
+pub record IsPlanned (states : Id → State) (x : Id) (i : Input) (stamp : Stamp) (v : Event) (p : Planned) : Type 0 where
   pub state : changed p.change (states x) ≡ (step (states x) i).state
   pub sound : IsSound (step (states x) i).state
   pub entry : p.entry ≡ entry_by stamp x v (step (states x) i)

@@ -90,7 +90,8 @@ impl Cells {
         ensures ids { ids_of self.new ≡ ids_of self.old }
         ensures stand { (states : ℕ → State) → AllStand self.old states → AllStand self.new states }
         ensures fits { IfOk result (λ p. FitsAt self.new place p.change) }
-        ensures plans { (states : ℕ → State) → AllStand self.old states → IfOk result (λ p. Plans (states (id_at self.old place)) p (step (states (id_at self.old place)) (plain_input input.now))) }
+        ensures plans { (states : ℕ → State) → AllStand self.old states →
+            IfOk result (λ p. Plans (states (id_at self.old place)) p (step (states (id_at self.old place)) (plain_input input.now))) }
         ensures sound { (states : ℕ → State) → AllStand self.old states → IsSound (step (states (id_at self.old place)) (plain_input input.now)).state }
     {
         prepare_at(&mut self.nodes, place, alloc, input)
@@ -101,7 +102,8 @@ impl Cells {
         requires within { place < length (ids_of self.old) }
         requires fits { FitsAt self.old place change }
         ensures ids { ids_of self.new ≡ ids_of self.old }
-        ensures stand { (states : ℕ → State) (t : State) → AllStand self.old states → changed change (states (id_at self.old place)) ≡ t → IsSound t → AllStand self.new (state_at states (id_at self.old place) t) }
+        ensures stand { (states : ℕ → State) (t : State) → AllStand self.old states → changed change (states (id_at self.old place)) ≡ t → IsSound t →
+            AllStand self.new (state_at states (id_at self.old place) t) }
     {
         commit_at(&mut self.nodes, place, change);
     }
@@ -153,8 +155,10 @@ fn prepare_at(
     ensures ids { ids_of nodes.new.items ≡ ids_of nodes.old.items }
     ensures stand { (states : ℕ → State) → AllStand nodes.old.items states → AllStand nodes.new.items states }
     ensures fits { IfOk result (λ p. FitsAt nodes.new.items place p.change) }
-    ensures plans { (states : ℕ → State) → AllStand nodes.old.items states → IfOk result (λ p. Plans (states (id_at nodes.old.items place)) p (step (states (id_at nodes.old.items place)) (plain_input input.now))) }
-    ensures sound { (states : ℕ → State) → AllStand nodes.old.items states → IsSound (step (states (id_at nodes.old.items place)) (plain_input input.now)).state }
+    ensures plans { (states : ℕ → State) → AllStand nodes.old.items states →
+        IfOk result (λ p. Plans (states (id_at nodes.old.items place)) p (step (states (id_at nodes.old.items place)) (plain_input input.now))) }
+    ensures sound { (states : ℕ → State) → AllStand nodes.old.items states →
+        IsSound (step (states (id_at nodes.old.items place)) (plain_input input.now)).state }
 {
     let node = &mut nodes[place];
     node.prepare(alloc, input)
@@ -165,7 +169,8 @@ fn commit_at(nodes: &mut Vec<Node>, place: usize, change: Change)
     requires fits { FitsAt nodes.old.items place change }
     requires different { AreDifferent nodes.old.items }
     ensures ids { ids_of nodes.new.items ≡ ids_of nodes.old.items }
-    ensures stand { (states : ℕ → State) (t : State) → AllStand nodes.old.items states → changed change (states (id_at nodes.old.items place)) ≡ t → IsSound t → AllStand nodes.new.items (state_at states (id_at nodes.old.items place) t) }
+    ensures stand { (states : ℕ → State) (t : State) → AllStand nodes.old.items states → changed change (states (id_at nodes.old.items place)) ≡ t → IsSound t →
+        AllStand nodes.new.items (state_at states (id_at nodes.old.items place) t) }
 {
     let node = &mut nodes[place];
     node.commit(change);

@@ -2,7 +2,7 @@
 
 ghost use Rattle.std.specs.Prelude.{◌≡◌, IfOk, map};
 ghost use Rattle.overlay_rules.specs.Record.{enveloped};
-ghost use Rattle.world_model.specs.Envelopes.{in_envelope};
+ghost use Rattle.wire_msg.specs.Words.{plain_envelope, plain_sent};
 
 use ring_math::{Id, OutOfMemory};
 use std::alloc::Global;
@@ -28,7 +28,7 @@ fn each_in_envelope(
     sender: Id,
     messages: Vec<Outgoing>,
 ) -> Result<Vec<Envelope>, OutOfMemory>
-    ensures { IfOk result (λ envelopes. envelopes.items ≡ map (in_envelope stamp sender) messages.items) }
+    ensures { IfOk result (λ envelopes. map plain_envelope envelopes.items ≡ map (enveloped stamp sender) (map plain_sent messages.items)) }
 {
     let envelopes = messages
         .into_iter()

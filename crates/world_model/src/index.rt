@@ -1,6 +1,7 @@
 //! The messages of a record: where each stands in the entries, and which of them were delivered.
 
-ghost use Rattle.std.specs.Prelude.{◌≡◌, ◌<◌, ◌≤◌, ◌+◌, ◌++◌, ◌∷◌, [], ℕ, List, length, vec_len, vec_capacity, OnOk, Some, true, false, replicate, slice_get, slice_index_or};
+ghost use Rattle.std.specs.Prelude.{◌≡◌, ◌<◌, ◌≤◌, ◌+◌, ◌++◌, ◌∷◌, [], ℕ, List, length, vec_len, vec_capacity, OnOk, Some, true, false, replicate, slice_get};
+ghost use Rattle.std.specs.Prelude.{slice_index_or};
 ghost use Rattle.overlay_rules.specs.declared.entry.Entry.{Entry as PlainEntry};
 ghost use Rattle.overlay_rules.specs.Record.{sent_in};
 ghost use Rattle.world_model.specs.Index.{DeliversBelow, HasRoom, ListsMessages, marked, oldest_of, spots_from};

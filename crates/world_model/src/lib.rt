@@ -9,7 +9,6 @@ mod cells;
 mod envelopes;
 mod index;
 mod plan;
-mod said;
 mod world;
 
 pub use overlay_rules::{Entries, Entry, Event, Record};

@@ -33,7 +33,8 @@ pub(crate) fn plan(
     ensures ids { ids_of cells.new ≡ ids_of cells.old }
     ensures stand { (states : ℕ → State) → AllStand cells.old states → AllStand cells.new states }
     ensures fits { IfOk result (λ p. FitsAt cells.new place p.change) }
-    ensures planned { (states : ℕ → State) → AllStand cells.old states → IfOk result (λ p. IsPlanned states (id_at cells.old place) (plain_input input.now) stamp event p) }
+    ensures planned { (states : ℕ → State) → AllStand cells.old states →
+        IfOk result (λ p. IsPlanned states (id_at cells.old place) (plain_input input.now) stamp event p) }
 {
     let Prepared {
         messages,

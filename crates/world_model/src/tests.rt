@@ -4,7 +4,7 @@ ghost use Rattle.std.specs.Prelude.{◌≡◌, Contains};
 ghost use Rattle.std.specs.Bool.{OnTrue};
 ghost use Rattle.overlay_rules.specs.declared.entry.Event.TheVariants as event;
 ghost use Rattle.overlay_rules.specs.Record.{IsSetting};
-ghost use Rattle.ring_laws.specs.Receivers.{ViaIs};
+ghost use Rattle.step_facts.specs.Receivers.{ViaIs};
 ghost use Rattle.world_model.specs.Numbers.{IsNewest, IsNumberedBelow};
 ghost use Rattle.world_model.specs.Recorded.{setting_of};
 

@@ -3,9 +3,9 @@
 ghost use Rattle.std.specs.Prelude.{◌≡◌, ◌<◌, ℕ, Some, [], Contains, IfOk, OnOk, OnErr, MatchBool, nat_lt, length, slice_get, slice_index_or};
 ghost use Rattle.wire_msg.specs.Words.{plain_envelope};
 ghost use Rattle.overlay_rules.specs.declared.entry.Event.TheVariants as event;
-ghost use Rattle.overlay_rules.specs.Record.{IsFresh, IsRecord, IsSaidBy, IsSetting, sent_in};
+ghost use Rattle.overlay_rules.specs.Record.{IsFresh, IsRecord, IsSetting, sent_in};
 ghost use Rattle.overlay_rules.specs.Played.{oldest_undelivered};
-ghost use Rattle.ring_laws.specs.Receivers.{ReceiversAre, ViaIs};
+ghost use Rattle.step_facts.specs.Receivers.{ReceiversAre, ViaIs};
 ghost use Rattle.node_parts.specs.Views.{hop_of};
 ghost use Rattle.node_core.specs.Inputs.{plain_input};
 ghost use Rattle.world_model.specs.Recorded.{setting_of, with_event, world_of};
@@ -16,7 +16,6 @@ ghost use Rattle.world_model.specs.Worlds.{ComesTo};
 use crate::cells::Cells;
 use crate::index::Messages;
 use crate::plan::{Planned, plan};
-use crate::said::can_be_said;
 use coverage::Hop;
 use node_core::Input;
 use overlay_rules::{Entries, Entry, Event, Record};
@@ -82,7 +81,6 @@ impl World {
         ensures ok { OnOk result (self.new ≡ with_event self.old (event.Command node number command.now)) }
         ensures err { OnErr result (self.new ≡ self.old) }
     {
-        can_be_said(command);
         let place = self.cells.place(node);
         let input = Input::Command {
             number,
@@ -97,10 +95,12 @@ impl World {
     }
 
     /// A message, counted from 0 over all that were sent, comes to its receiver. The answer is false, with nothing changed,
-    /// exactly where at most so many were sent. After `OutOfMemory` the world is as before.
+    /// exactly where at most so many were sent. After `OutOfMemory`, which comes only where the message was sent, the world is
+    /// as before.
     pub fn deliver(&mut self, alloc: Global, message: u64) -> Result<bool, OutOfMemory>
         ensures answer { IfOk result (λ was_sent. was_sent ≡ nat_lt message (length (sent_in self.old.entries))) }
         ensures ok { IfOk result (λ was_sent. MatchBool was_sent (self.new ≡ with_event self.old (event.Deliver message)) (self.new ≡ self.old)) }
+        ensures refused { OnErr result (message < length (sent_in self.old.entries)) }
         ensures err { OnErr result (self.new ≡ self.old) }
     {
         if message >= self.sent_len() {
@@ -206,11 +206,11 @@ impl World {
     ) -> Result<(), OutOfMemory>
         requires comes { ComesTo self.old event place (plain_input input.now) }
         requires fresh { IsFresh self.old.entries event }
-        requires said { IsSaidBy event }
         requires via { ViaIs (setting_of self.old) event }
         ensures ok { OnOk result (self.new ≡ with_event self.old event) }
         ensures err { OnErr result (self.new ≡ self.old) }
     {
+        event.said_law();
         let number = self.entries.as_slice().len();
         let Planned { change, entry } = plan(
             &mut self.cells,

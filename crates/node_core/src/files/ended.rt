@@ -5,7 +5,7 @@ ghost use Rattle.wire_msg.specs.Words.{InsertReply};
 ghost use Rattle.wire_msg.specs.declared.note.Note.TheVariants as note;
 ghost use Rattle.overlay_rules.specs.Outcome.{sent};
 ghost use Rattle.overlay_rules.specs.State.{State};
-ghost use Rattle.past_core.specs.Told.{replied_asks};
+ghost use Rattle.past_core.specs.Replied.{replied_asks};
 
 use past_core::Asks;
 use ring_math::{Id, OutOfMemory};

@@ -6,10 +6,10 @@ ghost use Rattle.overlay_rules.specs.State.{State};
 ghost use Rattle.overlay_rules.specs.Roots.{on_fetch as on_fetch_of, fetched};
 ghost use Rattle.node_core.specs.Rows.{IsRow};
 
-use crate::files::refused::{busy, not_ready};
-use node_parts::{Change, Node, Prepared, Wait, one_more, replied, sending};
-use overlay_rules::{Asked, Way};
-use ring_math::{FileId, Id, OutOfMemory, key_of};
+use crate::request::{Request, Served};
+use node_parts::{Node, Prepared, one_more};
+use overlay_rules::Asked;
+use ring_math::{FileId, OutOfMemory, key_of};
 use std::alloc::Global;
 use wire_msg::{Message, Reply};
 
@@ -32,30 +32,27 @@ fn answer(node: &Node, alloc: Global, file: &FileId) -> Result<Reply, OutOfMemor
 pub(crate) fn on_fetch(
     node: &Node,
     alloc: Global,
-    wait: Wait,
-    origin: Id,
-    number: u64,
+    request: &Request,
     hops: u16,
     file: &FileId,
 ) -> Result<Prepared, OutOfMemory>
-    ensures { IsRow node.now wait (λ s. on_fetch_of s origin number hops file.now) result }
+    ensures { IsRow node.now request.now.wait (λ s. on_fetch_of s request.now.origin request.now.number hops file.now) result }
 {
-    let change = Change::waits(wait);
-    match node.way(key_of(file)) {
-        Way::NotReady => not_ready(alloc, change, Asked::Fetch, origin, number, node.me),
-        Way::Here => {
+    let served = request.served(node, alloc, Asked::Fetch, key_of(file))?;
+    match served {
+        Served::Here => {
             let reply = answer(node, alloc, file)?;
-            replied(alloc, change, Asked::Fetch, origin, number, reply)
+            request.replied(alloc, Asked::Fetch, reply)
         }
-        Way::Gap { joiner } => busy(alloc, change, Asked::Fetch, origin, number, node.me, joiner),
-        Way::To { node: next } => {
+        Served::On { node: next } => {
             let message = Message::Fetch {
-                origin,
-                number,
+                origin: request.origin,
+                number: request.number,
                 hops: one_more(hops),
                 file: *file,
             };
-            sending(alloc, change, next, message)
+            request.passed_on(alloc, next, message)
         }
+        Served::Refused(prepared) => Ok(prepared),
     }
 }

@@ -8,7 +8,7 @@ ghost use Rattle.node_core.specs.Rows.{IsRow};
 
 use crate::joins::finishing::ready_with_file;
 use file_store::Put;
-use node_parts::{Change, Node, Prepared, quietly};
+use node_parts::{Change, Node, Prepared};
 use ring_math::{Bytes, FileId, OutOfMemory};
 use std::alloc::Global;
 
@@ -34,6 +34,6 @@ pub(crate) fn on_handover(
     if is_new(put) {
         ready_with_file(node, alloc, file, bytes)
     } else {
-        Ok(quietly(alloc, Change::nothing()))
+        Ok(Prepared::quiet(alloc, Change::nothing()))
     }
 }

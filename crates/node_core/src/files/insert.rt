@@ -14,17 +14,21 @@ ghost use Rattle.node_parts.specs.Plans.{Plans};
 ghost use Rattle.node_core.specs.Rows.{IsRow};
 ghost use Rattle.node_core.specs.Replies.{IsReply};
 
-use crate::files::refused::{busy, not_ready};
+use crate::request::{Request, Served};
 use file_store::Put;
-use node_parts::{
-    Change, Node, PastChange, Prepared, StoreChange, Wait, one_more, replied_after, send_to_each,
-    sending,
-};
-use overlay_rules::{Asked, Pending, Way};
+use node_parts::{Change, Node, PastChange, Prepared, StoreChange, one_more, send_to_each};
+use overlay_rules::{Asked, Pending};
 use past_core::{InsertWhat, what_insert};
 use ring_math::{Bytes, FileId, Id, Ids, OutOfMemory, key_of};
 use std::alloc::Global;
 use wire_msg::{Copies, Message, Note, Notes, Reply, Sends};
+
+/// What an insert makes of the files, and what is noted of that.
+#[derive(Drop)]
+struct Kept {
+    store: StoreChange,
+    notes: Notes,
+}
 
 /// What an accepted file makes of the files.
 fn store_where(
@@ -66,26 +70,24 @@ fn notes_where(
 /// Replicas are asked for, and the insert waits for them.
 fn replicating(
     alloc: Global,
-    notes: Notes,
-    store: StoreChange,
-    wait: Wait,
-    origin: Id,
-    number: u64,
+    kept: Kept,
+    request: &Request,
     file: &FileId,
     bytes: &Bytes,
     targets: Ids,
 ) -> Result<Prepared, OutOfMemory>
-    ensures { (s : State) → IfOk result (λ p. Plans s p (before [] notes (becomes
-        (record (waited wait s) {
-          files = files_after store s.files;
+    ensures { (s : State) → IfOk result (λ p. Plans s p (before [] kept.notes (becomes
+        (record (waited request.now.wait s) {
+          files = files_after kept.store s.files;
           pending = with_ask s.pending
-              (record { origin = origin; number = number; file = file.now; targets = targets; awaited = targets });
+              (record { origin = request.now.origin; number = request.now.number; file = file.now; targets = targets; awaited = targets });
         })
-        (to_each targets (Replicate origin number file.now bytes.now)) []))) }
+        (to_each targets (Replicate request.now.origin request.now.number file.now bytes.now)) []))) }
 {
+    let Kept { store, notes } = kept;
     let message = Message::Replicate {
-        origin,
-        number,
+        origin: request.origin,
+        number: request.number,
         file: *file,
         bytes: bytes.copy(alloc)?,
     };
@@ -93,14 +95,14 @@ fn replicating(
     send_to_each(alloc, &mut messages, targets.as_slice(), &message)?;
     let awaited = targets.copy(alloc)?;
     let pending = Pending {
-        origin,
-        number,
+        origin: request.origin,
+        number: request.number,
         file: *file,
         targets,
         awaited,
     };
     let past = PastChange::Add(Box::new(alloc, pending)?);
-    let change = Change::files(alloc, store, past, wait)?;
+    let change = Change::files(alloc, store, past, request.wait)?;
     Ok(Prepared {
         messages,
         notes,
@@ -127,52 +129,56 @@ fn reply_of(me: Id, what: InsertWhat) -> Result<Reply, Ids>
 fn insert_here(
     node: &Node,
     alloc: Global,
-    wait: Wait,
-    origin: Id,
-    number: u64,
+    request: &Request,
     file: &FileId,
     copies: Copies,
     bytes: &Bytes,
 ) -> Result<Prepared, OutOfMemory>
-    ensures { IsRow node.now wait (λ s. inserted s origin number file.now copies bytes.now (slot_of s.files file.now)) result }
+    ensures { IsRow node.now request.now.wait
+        (λ s. inserted s request.now.origin request.now.number file.now copies bytes.now (slot_of s.files file.now)) result }
 {
     let step = what_insert(alloc, &node.store, node.known.leafs(), file, copies, bytes)?;
     let store = store_where(alloc, step.accepted, file, bytes)?;
     let notes = notes_where(alloc, step.accepted, file, bytes)?;
     answered(
-        alloc, node.me, notes, store, wait, origin, number, file, bytes, step.what,
+        node.me,
+        alloc,
+        Kept { store, notes },
+        request,
+        file,
+        bytes,
+        step.what,
     )
 }
 
-/// What was found is said, after these notes.
+/// What was found is said, after what is noted.
 fn answered(
-    alloc: Global,
     me: Id,
-    notes: Notes,
-    store: StoreChange,
-    wait: Wait,
-    origin: Id,
-    number: u64,
+    alloc: Global,
+    kept: Kept,
+    request: &Request,
     file: &FileId,
     bytes: &Bytes,
     what: InsertWhat,
 ) -> Result<Prepared, OutOfMemory>
-    ensures { (s : State) → s.me ≡ me → IfOk result (λ p. Plans s p (before [] notes (said
-        (record (waited wait s) { files = files_after store s.files; pending = with_added s.pending (pending_of origin number file.now what) })
-        origin number file.now bytes.now what))) }
+    ensures { (s : State) → s.me ≡ me → IfOk result (λ p. Plans s p (before [] kept.notes (said
+        (record (waited request.now.wait s) {
+          files = files_after kept.store s.files;
+          pending = with_added s.pending (pending_of request.now.origin request.now.number file.now what);
+        })
+        request.now.origin request.now.number file.now bytes.now what))) }
 {
     match reply_of(me, what) {
         Ok(reply) => {
+            let Kept { store, notes } = kept;
             let first = Prepared {
                 messages: Sends::new(alloc),
                 notes,
-                change: Change::files(alloc, store, PastChange::Keep, wait)?,
+                change: Change::files(alloc, store, PastChange::Keep, request.wait)?,
             };
-            replied_after(alloc, first, Asked::Insert, origin, number, reply)
+            first.and_replied(alloc, Asked::Insert, request.origin, request.number, reply)
         }
-        Err(targets) => replicating(
-            alloc, notes, store, wait, origin, number, file, bytes, targets,
-        ),
+        Err(targets) => replicating(alloc, kept, request, file, bytes, targets),
     }
 }
 
@@ -181,39 +187,28 @@ fn answered(
 pub(crate) fn on_insert(
     node: &Node,
     alloc: Global,
-    wait: Wait,
-    origin: Id,
-    number: u64,
+    request: &Request,
     hops: u16,
     file: &FileId,
     copies: Copies,
     bytes: &Bytes,
 ) -> Result<Prepared, OutOfMemory>
-    ensures { IsRow node.now wait (λ s. on_insert_of s origin number hops file.now copies bytes.now) result }
+    ensures { IsRow node.now request.now.wait (λ s. on_insert_of s request.now.origin request.now.number hops file.now copies bytes.now) result }
 {
-    let change = Change::waits(wait);
-    match node.way(key_of(file)) {
-        Way::NotReady => not_ready(alloc, change, Asked::Insert, origin, number, node.me),
-        Way::Here => insert_here(node, alloc, wait, origin, number, file, copies, bytes),
-        Way::Gap { joiner } => busy(
-            alloc,
-            change,
-            Asked::Insert,
-            origin,
-            number,
-            node.me,
-            joiner,
-        ),
-        Way::To { node: next } => {
+    let served = request.served(node, alloc, Asked::Insert, key_of(file))?;
+    match served {
+        Served::Here => insert_here(node, alloc, request, file, copies, bytes),
+        Served::On { node: next } => {
             let message = Message::Insert {
-                origin,
-                number,
+                origin: request.origin,
+                number: request.number,
                 hops: one_more(hops),
                 file: *file,
                 copies,
                 bytes: bytes.copy(alloc)?,
             };
-            sending(alloc, change, next, message)
+            request.passed_on(alloc, next, message)
         }
+        Served::Refused(prepared) => Ok(prepared),
     }
 }

@@ -9,11 +9,9 @@ ghost use Rattle.node_parts.specs.Change.{changed, waited};
 ghost use Rattle.node_core.specs.Rows.{IsRow};
 
 use crate::files::ended::reply_each;
-use crate::files::refused::{busy, not_ready};
-use node_parts::{
-    Change, Node, PastChange, Prepared, StoreChange, Wait, one_more, replied_after, sending,
-};
-use overlay_rules::{Asked, Way};
+use crate::request::{Request, Served};
+use node_parts::{Change, Node, PastChange, Prepared, StoreChange, Wait, one_more};
+use overlay_rules::Asked;
 use past_core::ReclaimWhat;
 use ring_math::{FileId, Id, OutOfMemory, key_of};
 use std::alloc::Global;
@@ -66,12 +64,10 @@ fn change_of(
 fn reclaim_here(
     node: &Node,
     alloc: Global,
-    wait: Wait,
-    origin: Id,
-    number: u64,
+    request: &Request,
     file: &FileId,
 ) -> Result<Prepared, OutOfMemory>
-    ensures { IsRow node.now wait (λ s. reclaimed s origin number file.now (slot_of s.files file.now)) result }
+    ensures { IsRow node.now request.now.wait (λ s. reclaimed s request.now.origin request.now.number file.now (slot_of s.files file.now)) result }
 {
     let step = node.past.what_reclaim(alloc, &node.store, file)?;
     let mut messages = Sends::new(alloc);
@@ -83,18 +79,17 @@ fn reclaim_here(
         &mut messages,
         &mut notes,
     )?;
-    let change = change_of(alloc, step.what, file, wait)?;
+    let change = change_of(alloc, step.what, file, request.wait)?;
     let first = Prepared {
         messages,
         notes,
         change,
     };
-    replied_after(
+    first.and_replied(
         alloc,
-        first,
         Asked::Reclaim,
-        origin,
-        number,
+        request.origin,
+        request.number,
         reply_of(node.me, step.what),
     )
 }
@@ -104,35 +99,24 @@ fn reclaim_here(
 pub(crate) fn on_reclaim(
     node: &Node,
     alloc: Global,
-    wait: Wait,
-    origin: Id,
-    number: u64,
+    request: &Request,
     hops: u16,
     file: &FileId,
 ) -> Result<Prepared, OutOfMemory>
-    ensures { IsRow node.now wait (λ s. on_reclaim_of s origin number hops file.now) result }
+    ensures { IsRow node.now request.now.wait (λ s. on_reclaim_of s request.now.origin request.now.number hops file.now) result }
 {
-    let change = Change::waits(wait);
-    match node.way(key_of(file)) {
-        Way::NotReady => not_ready(alloc, change, Asked::Reclaim, origin, number, node.me),
-        Way::Here => reclaim_here(node, alloc, wait, origin, number, file),
-        Way::Gap { joiner } => busy(
-            alloc,
-            change,
-            Asked::Reclaim,
-            origin,
-            number,
-            node.me,
-            joiner,
-        ),
-        Way::To { node: next } => {
+    let served = request.served(node, alloc, Asked::Reclaim, key_of(file))?;
+    match served {
+        Served::Here => reclaim_here(node, alloc, request, file),
+        Served::On { node: next } => {
             let message = Message::Reclaim {
-                origin,
-                number,
+                origin: request.origin,
+                number: request.number,
                 hops: one_more(hops),
                 file: *file,
             };
-            sending(alloc, change, next, message)
+            request.passed_on(alloc, next, message)
         }
+        Served::Refused(prepared) => Ok(prepared),
     }
 }

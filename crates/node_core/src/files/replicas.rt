@@ -1,6 +1,6 @@
 //! Replicas and their acknowledgements.
 
-ghost use Rattle.std.specs.Prelude.{◌≡◌, ◌<◌, ◌∷◌, ℕ, List, IfOk, MatchOption, length, slice_get};
+ghost use Rattle.std.specs.Prelude.{◌≡◌, ◌<◌, ◌≤◌, ◌∷◌, ℕ, List, IfOk, MatchOption, length, slice_get};
 ghost use Rattle.overlay_rules.specs.Replicas.{acknowledged as acknowledged_of, on_replicate as on_replicate_of, on_replica_ack as on_replica_ack_of};
 ghost use Rattle.overlay_rules.specs.State.{State};
 ghost use Rattle.node_parts.specs.Change.{changed};
@@ -11,12 +11,10 @@ ghost use Rattle.node_parts.specs.declared.change.Wait.TheVariants as waiting;
 ghost use Rattle.node_core.specs.Rows.{IsRow};
 
 use file_store::Put;
-use node_parts::{
-    Change, Node, PastChange, Prepared, StoreChange, Wait, quietly, replied, sending,
-};
+use node_parts::{Change, Node, PastChange, Prepared, StoreChange, Wait};
 use overlay_rules::Asked;
 use past_core::Ack;
-use ring_math::{Bytes, FileId, Id, Ids, OutOfMemory};
+use ring_math::{Bytes, FileId, Id, Ids, MOST_MEMBERS, OutOfMemory};
 use std::alloc::Global;
 use wire_msg::{Message, Reply};
 
@@ -36,7 +34,7 @@ fn acknowledged(
         number,
         file: *file,
     };
-    sending(alloc, change, root, ack)
+    Prepared::sending(alloc, change, root, ack)
 }
 
 /// The row of a replica from a root.
@@ -62,15 +60,15 @@ pub(crate) fn on_replicate(
             acknowledged(alloc, change, from, origin, number, file)
         }
         Put::Same => acknowledged(alloc, Change::nothing(), from, origin, number, file),
-        _ => Ok(quietly(alloc, Change::nothing())),
+        _ => Ok(Prepared::quiet(alloc, Change::nothing())),
     }
 }
 
-/// The node, and then those of its replicas; None exactly where these are 17, for which no answer has room.
+/// The node, and then those of its replicas; None exactly where these are so many that no answer has room for the node too.
 fn holders_of(alloc: Global, me: Id, targets: &Ids) -> Result<Option<Ids>, OutOfMemory>
-    ensures { IfOk result (λ holders. MatchOption holders (16 < length targets.now) (λ all. all ≡ me ∷ targets.now)) }
+    ensures { IfOk result (λ holders. MatchOption holders (MOST_MEMBERS ≤ length targets.now) (λ all. all ≡ me ∷ targets.now)) }
 {
-    if targets.as_slice().len() > 16 {
+    if targets.as_slice().len() >= MOST_MEMBERS {
         return Ok(None);
     }
     let mut holders = Ids::with_room(alloc)?;
@@ -98,7 +96,7 @@ fn stored(
         Some(all) => {
             let past = PastChange::TakeOut { place };
             let change = Change::files(alloc, StoreChange::Keep, past, Wait::Keep)?;
-            replied(
+            Prepared::replied(
                 alloc,
                 change,
                 Asked::Insert,
@@ -107,8 +105,8 @@ fn stored(
                 Reply::Stored { holders: all },
             )
         }
-        // An insert asks for eight replicas at most, so this does not come.
-        None => Ok(quietly(alloc, Change::nothing())),
+        // No insert has so many targets, so this does not come.
+        None => Ok(Prepared::quiet(alloc, Change::nothing())),
     }
 }
 
@@ -126,11 +124,11 @@ pub(crate) fn on_replica_ack(
 {
     let ack = node.past.what_ack(alloc, from, origin, number, file)?;
     match ack {
-        Ack::Unknown => Ok(quietly(alloc, Change::nothing())),
+        Ack::Unknown => Ok(Prepared::quiet(alloc, Change::nothing())),
         Ack::Heard { place, awaited } => {
             let past = PastChange::Hear { place, awaited };
             let change = Change::files(alloc, StoreChange::Keep, past, Wait::Keep)?;
-            Ok(quietly(alloc, change))
+            Ok(Prepared::quiet(alloc, change))
         }
         Ack::Last { place } => stored(node, alloc, place, origin, number),
     }

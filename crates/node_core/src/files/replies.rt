@@ -6,7 +6,7 @@ ghost use Rattle.overlay_rules.specs.Replicas.{on_reply as on_reply_of};
 ghost use Rattle.node_parts.specs.declared.change.Wait.TheVariants as waiting;
 ghost use Rattle.node_core.specs.Rows.{IsRow};
 
-use node_parts::{Change, Node, Prepared, Wait, closing, quietly};
+use node_parts::{Change, Node, Prepared, Wait};
 use ring_math::OutOfMemory;
 use std::alloc::Global;
 use wire_msg::{Answer, Reply, Sends};
@@ -30,7 +30,7 @@ pub(crate) fn on_reply(
 {
     if is_waiting(&node.waiting, number) {
         let answer = Answer::Reply(reply.copy(alloc)?);
-        closing(
+        Prepared::closing(
             alloc,
             Change::waits(Wait::Take { number }),
             Sends::new(alloc),
@@ -38,6 +38,6 @@ pub(crate) fn on_reply(
             answer,
         )
     } else {
-        Ok(quietly(alloc, Change::nothing()))
+        Ok(Prepared::quiet(alloc, Change::nothing()))
     }
 }

@@ -11,7 +11,7 @@ ghost use Rattle.node_parts.specs.Seen.{seen, Shows};
 ghost use Rattle.node_parts.specs.Plans.{Plans};
 
 use join_core::Begin;
-use node_parts::{Change, Learn, Node, Prepared, closing, one_more, sending};
+use node_parts::{Change, Learn, Node, Prepared, one_more};
 use overlay_rules::Way;
 use ring_math::{Id, OutOfMemory};
 use std::alloc::Global;
@@ -36,7 +36,7 @@ pub(crate) fn on_join(
                 attempt,
                 hops: 0,
             };
-            sending(alloc, change, via, request)
+            Prepared::sending(alloc, change, via, request)
         }
         Begin::Already => stopped(node, alloc, number, Own::Already),
         Begin::Spent => stopped(node, alloc, number, Own::Spent),
@@ -48,7 +48,7 @@ fn stopped(node: &Node, alloc: Global, number: u64, own: Own) -> Result<Prepared
     ensures { (known : List ℕ) → IfOk result (λ p. Plans (seen node.now known) p (stopped_of (seen node.now known) number own)) }
 {
     let answer = Answer::Stopped { node: node.me, own };
-    closing(alloc, Change::nothing(), Sends::new(alloc), number, answer)
+    Prepared::closing(alloc, Change::nothing(), Sends::new(alloc), number, answer)
 }
 
 /// A JoinRequest, which is routed by the joiner's identifier. In the joiner's own gap it is answered too.
@@ -60,7 +60,8 @@ pub(crate) fn on_join_request(
     attempt: u32,
     hops: u16,
 ) -> Result<Prepared, OutOfMemory>
-    ensures { (known : List ℕ) → Shows node.now known → IfOk result (λ p. Plans (seen node.now known) p (on_join_request_of (seen node.now known) joiner attempt hops)) }
+    ensures { (known : List ℕ) → Shows node.now known →
+        IfOk result (λ p. Plans (seen node.now known) p (on_join_request_of (seen node.now known) joiner attempt hops)) }
 {
     match node.way(joiner) {
         Way::NotReady => refused(alloc, joiner, attempt, Why::NotReady),
@@ -72,7 +73,7 @@ pub(crate) fn on_join_request(
                 attempt,
                 hops: one_more(hops),
             };
-            sending(alloc, Change::nothing(), next, request)
+            Prepared::sending(alloc, Change::nothing(), next, request)
         }
     }
 }
@@ -101,7 +102,7 @@ fn welcomed(node: &Node, alloc: Global, joiner: Id, attempt: u32) -> Result<Prep
         (becomes (seen node.now known) (sent joiner (JoinReply attempt (members (seen node.now known))) ∷ []) [])) }
 {
     let members = node.members(alloc)?;
-    sending(
+    Prepared::sending(
         alloc,
         Change::nothing(),
         joiner,
@@ -112,7 +113,7 @@ fn welcomed(node: &Node, alloc: Global, joiner: Id, attempt: u32) -> Result<Prep
 fn refused(alloc: Global, joiner: Id, attempt: u32, why: Why) -> Result<Prepared, OutOfMemory>
     ensures { (s : State) → IfOk result (λ p. Plans s p (becomes s (sent joiner (JoinRefuse attempt why) ∷ []) [])) }
 {
-    sending(
+    Prepared::sending(
         alloc,
         Change::nothing(),
         joiner,

@@ -11,7 +11,7 @@ ghost use Rattle.node_parts.specs.Seen.{seen};
 ghost use Rattle.node_parts.specs.Plans.{Plans};
 
 use join_core::{Halted, Joiner};
-use node_parts::{Change, Learn, Node, Prepared, closing, quietly, sent_to_both};
+use node_parts::{Change, Learn, Node, Prepared, sent_to_both};
 use ring_math::{Id, OutOfMemory};
 use std::alloc::Global;
 use wire_msg::{Answer, Message, Note, Notes, Own, Sends, Why};
@@ -39,7 +39,7 @@ pub(crate) fn on_give_up(node: &Node, alloc: Global, number: u64) -> Result<Prep
     let mut joiner = node.seat.joiner().copy(alloc)?;
     match joiner.give_up() {
         Some(halted) => given_up(node, alloc, joiner, number, &halted),
-        None => closing(
+        None => Prepared::closing(
             alloc,
             Change::nothing(),
             Sends::new(alloc),
@@ -96,7 +96,7 @@ pub(crate) fn on_join_refuse(
     let mut joiner = node.seat.joiner().copy(alloc)?;
     match joiner.on_refuse(attempt) {
         Some(halted) => ended(alloc, joiner, Learn::Nothing, from, why, &halted),
-        None => Ok(quietly(alloc, Change::nothing())),
+        None => Ok(Prepared::quiet(alloc, Change::nothing())),
     }
 }
 
@@ -113,13 +113,13 @@ pub(crate) fn on_deny(
 {
     let mut joiner = node.seat.joiner().copy(alloc)?;
     match joiner.on_deny(attempt) {
-        Some(halted) => ended(alloc, joiner, told_by(&why), from, why, &halted),
-        None => Ok(quietly(alloc, Change::nothing())),
+        Some(halted) => ended(alloc, joiner, taught_by(&why), from, why, &halted),
+        None => Ok(Prepared::quiet(alloc, Change::nothing())),
     }
 }
 
 /// What a denial teaches.
-fn told_by(why: &Why) -> Learn
+fn taught_by(why: &Why) -> Learn
     ensures { (s : State) → known_after s.me result s.known ≡ learnt_of s why.now }
 {
     match why {
@@ -143,5 +143,5 @@ fn ended(
     let messages = released(alloc, halted)?;
     let change = Change::joins(alloc, joiner, learn)?;
     let answer = Answer::Denied { node: from, why };
-    closing(alloc, change, messages, halted.number, answer)
+    Prepared::closing(alloc, change, messages, halted.number, answer)
 }

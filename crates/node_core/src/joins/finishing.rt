@@ -11,17 +11,17 @@ ghost use Rattle.overlay_rules.specs.Replicas.{holding};
 ghost use Rattle.overlay_rules.specs.Step.{on_announce as on_announce_of};
 ghost use Rattle.join_core.specs.Outcomes.{noted_in};
 ghost use Rattle.replica_handover.specs.Taken.{is_done, is_complete};
-ghost use Rattle.node_parts.specs.Seats.{left_lists, right_lists};
+ghost use Rattle.node_parts.specs.Seats.{left_lists, right_lists, taken_of};
 ghost use Rattle.node_parts.specs.Seen.{seen, Shows};
 ghost use Rattle.node_parts.specs.Plans.{Plans};
-ghost use Rattle.node_core.specs.Pledged.{taken_of, files_set, noted_at};
+ghost use Rattle.node_core.specs.Pledged.{files_set, noted_at};
 
 use file_store::{Buried, FileStore};
 use join_core::{Finished, GrantStep, Joiner};
 use node_parts::{
-    Change, Learn, Lists, Node, Prepared, SeatChange, StoreChange, closing, quietly, send_to_each,
-    sending, sent_to_both,
+    Change, Learn, Node, Prepared, SeatChange, StoreChange, send_to_each, sent_to_both,
 };
+use replica_handover::{Pledge, Taking};
 use ring_math::{Bytes, FileId, FileIds, Id, OutOfMemory};
 use std::alloc::Global;
 use wire_msg::{Answer, Message};
@@ -31,7 +31,7 @@ pub(crate) fn on_announce(alloc: Global, from: Id) -> Result<Prepared, OutOfMemo
     ensures { (s : State) → IfOk result (λ p. Plans s p (on_announce_of s from)) }
 {
     let change = Change::seats(alloc, SeatChange::Keep, Learn::One(from))?;
-    Ok(quietly(alloc, change))
+    Ok(Prepared::quiet(alloc, change))
 }
 
 /// The join is done: both leases are confirmed, and the leaves are told. These files change with it.
@@ -57,18 +57,18 @@ fn readied(
     };
     let change = Change::seats_and_files(alloc, seat, store)?;
     let answer = Answer::Joined { left, right };
-    closing(alloc, change, messages, number, answer)
+    Prepared::closing(alloc, change, messages, number, answer)
 }
 
 /// Whether a side has handed over, and the store will have all of it once this file is put.
-fn is_done_with(store: &FileStore, file: &FileId, side: Option<&Lists>) -> bool
+fn is_done_with(store: &FileStore, file: &FileId, side: Option<&Pledge>) -> bool
     ensures { (bytes : List ℕ) → result ≡ is_done (with_slot store.now.files file.now (Some bytes)) (option_copied side.entry) }
 {
     match side {
         Some(lists) => store.has_lists_with(
             file,
-            lists.manifest.as_slice(),
-            lists.tombs.as_slice(),
+            lists.manifest().as_slice(),
+            lists.tombs().as_slice(),
         ),
         None => false,
     }
@@ -78,8 +78,8 @@ fn is_done_with(store: &FileStore, file: &FileId, side: Option<&Lists>) -> bool
 fn is_complete_with(node: &Node, file: &FileId) -> bool
     ensures { (bytes : List ℕ) → result ≡ is_complete (with_slot node.now.store.files file.now (Some bytes)) (taken_of node.now.seat) }
 {
-    is_done_with(&node.store, file, node.seat.from_left())
-        && is_done_with(&node.store, file, node.seat.from_right())
+    is_done_with(&node.store, file, node.seat.taking().left())
+        && is_done_with(&node.store, file, node.seat.taking().right())
 }
 
 /// The ready test once this file is put, which goes in.
@@ -117,7 +117,7 @@ fn keeping_file(alloc: Global, store: StoreChange) -> Result<Prepared, OutOfMemo
     ensures { (s : State) → IfOk result (λ p. Plans s p (nothing (files_set store s))) }
 {
     let change = Change::seats_and_files(alloc, SeatChange::Keep, store)?;
-    Ok(quietly(alloc, change))
+    Ok(Prepared::quiet(alloc, change))
 }
 
 /// A Grant.
@@ -135,19 +135,29 @@ pub(crate) fn on_grant(
 {
     let mut joiner = node.seat.joiner().copy(alloc)?;
     match joiner.on_grant(from, attempt) {
-        GrantStep::Older => sending(alloc, Change::nothing(), from, Message::Release { attempt }),
-        GrantStep::Settled => sending(alloc, Change::nothing(), from, Message::Confirm { attempt }),
+        GrantStep::Older => Prepared::sending(
+            alloc,
+            Change::nothing(),
+            from,
+            Message::Release { attempt },
+        ),
+        GrantStep::Settled => Prepared::sending(
+            alloc,
+            Change::nothing(),
+            from,
+            Message::Confirm { attempt },
+        ),
         GrantStep::Noted => {
             let manifest = manifest.copy(alloc)?;
             let tombs = tombs.copy(alloc)?;
-            noted(node, alloc, from, &Lists { manifest, tombs })
+            noted(node, alloc, from, &Pledge::new(manifest, tombs))
         }
-        GrantStep::Dropped => Ok(quietly(alloc, Change::nothing())),
+        GrantStep::Dropped => Ok(Prepared::quiet(alloc, Change::nothing())),
     }
 }
 
 /// A lease that is asked for is granted with these lists.
-fn noted(node: &Node, alloc: Global, from: Id, lists: &Lists) -> Result<Prepared, OutOfMemory>
+fn noted(node: &Node, alloc: Global, from: Id, lists: &Pledge) -> Result<Prepared, OutOfMemory>
     ensures { (known : List ℕ) → Shows node.now known → IfOk result (λ p. Plans (seen node.now known) p
         (noted_in (seen node.now known) from lists.now node.now.seat)) }
 {
@@ -167,7 +177,7 @@ fn noted(node: &Node, alloc: Global, from: Id, lists: &Lists) -> Result<Prepared
             };
             keeping(node, alloc, from, &join, lists)
         }
-        _ => Ok(quietly(alloc, Change::nothing())),
+        _ => Ok(Prepared::quiet(alloc, Change::nothing())),
     }
 }
 
@@ -175,30 +185,33 @@ fn noted(node: &Node, alloc: Global, from: Id, lists: &Lists) -> Result<Prepared
 fn is_new(node: &Node, from: Id, join: &Finished) -> bool
     ensures { result ≡ ((from == join.now.left && is_none (left_lists node.now.seat)) || (from == join.now.right && is_none (right_lists node.now.seat))) }
 {
-    from == join.left && node.seat.from_left().is_none()
-        || from == join.right && node.seat.from_right().is_none()
+    from == join.left && node.seat.taking().left().is_none()
+        || from == join.right && node.seat.taking().right().is_none()
 }
 
 /// Whether a side has handed over, these lists first where it is the sender's, and the store will have all of it.
-fn is_done_buried(buried: &Buried, side: Option<&Lists>, is_side: bool, lists: &Lists) -> bool
+fn is_done_buried(buried: &Buried, side: Option<&Pledge>, is_side: bool, lists: &Pledge) -> bool
     ensures { result ≡ is_done buried.now (kept_first is_side (option_copied side.entry) lists.now) }
 {
     match side {
-        Some(kept) => buried.has_lists(kept.manifest.as_slice(), kept.tombs.as_slice()),
-        None if is_side => buried.has_lists(lists.manifest.as_slice(), lists.tombs.as_slice()),
+        Some(kept) => buried.has_lists(kept.manifest().as_slice(), kept.tombs().as_slice()),
+        None if is_side => {
+            buried.has_lists(lists.manifest().as_slice(), lists.tombs().as_slice())
+        }
         None => false,
     }
 }
 
 /// Whether both sides have handed over with these lists, and the store will have all of it once the tombs are buried.
-fn is_complete_buried(node: &Node, from: Id, join: &Finished, lists: &Lists) -> bool
+fn is_complete_buried(node: &Node, from: Id, join: &Finished, lists: &Pledge) -> bool
     ensures { let files : List Held = buried_all node.now.store.files lists.now.tombs in result ≡
         (is_done files (kept_first (from == join.now.left) (left_lists node.now.seat) lists.now)
         && is_done files (kept_first (from == join.now.right) (right_lists node.now.seat) lists.now)) }
 {
-    let buried = Buried::new(&node.store, lists.tombs.as_slice());
-    is_done_buried(&buried, node.seat.from_left(), from == join.left, lists)
-        && is_done_buried(&buried, node.seat.from_right(), from == join.right, lists)
+    let buried = Buried::new(&node.store, lists.tombs().as_slice());
+    let taking = node.seat.taking();
+    is_done_buried(&buried, taking.left(), from == join.left, lists)
+        && is_done_buried(&buried, taking.right(), from == join.right, lists)
 }
 
 /// The lists are kept on each side that the sender is and that has none, and the tombs are buried; then the ready test.
@@ -207,16 +220,16 @@ fn keeping(
     alloc: Global,
     from: Id,
     join: &Finished,
-    lists: &Lists,
+    lists: &Pledge,
 ) -> Result<Prepared, OutOfMemory>
     requires { node.now.seat ≡ Leasing join.now.attempt join.now.number join.now.left join.now.right (left_lists node.now.seat) (right_lists node.now.seat) }
     ensures { (known : List ℕ) → Shows node.now known → IfOk result (λ p. Plans (seen node.now known) p
         (noted_at (seen node.now known) from lists.now join.now (left_lists node.now.seat) (right_lists node.now.seat))) }
 {
     if !is_new(node, from, join) {
-        return Ok(quietly(alloc, Change::nothing()));
+        return Ok(Prepared::quiet(alloc, Change::nothing()));
     }
-    let store = StoreChange::Bury(lists.tombs.copy(alloc)?);
+    let store = StoreChange::Bury(lists.tombs().copy(alloc)?);
     if is_complete_buried(node, from, join, lists) {
         return readied(
             node,
@@ -230,12 +243,12 @@ fn keeping(
     }
     let left = given(alloc, from == join.left, lists)?;
     let right = given(alloc, from == join.right, lists)?;
-    let change = Change::granted(alloc, left, right, store)?;
-    Ok(quietly(alloc, change))
+    let change = Change::granted(alloc, Taking::of(left, right), store)?;
+    Ok(Prepared::quiet(alloc, change))
 }
 
 /// A copy of the lists, where it is wanted.
-fn given(alloc: Global, wanted: bool, lists: &Lists) -> Result<Option<Lists>, OutOfMemory>
+fn given(alloc: Global, wanted: bool, lists: &Pledge) -> Result<Option<Pledge>, OutOfMemory>
     ensures { IfOk result (λ given. given ≡ (if wanted then Some lists.now else None)) }
 {
     if wanted {

@@ -11,7 +11,7 @@ ghost use Rattle.node_parts.specs.Plans.{Plans};
 use gate_core::Links;
 use node_parts::{
     Change, GateChange, Learn, Lease, Node, PastChange, Prepared, Rest, SeatChange, StoreChange,
-    Wait, bare, quietly,
+    Wait, bare,
 };
 use ring_math::{Id, OutOfMemory};
 use std::alloc::Global;
@@ -83,7 +83,7 @@ pub(crate) fn on_release(
         without(&node.left_gate, from, attempt),
         without(&node.right_gate, from, attempt),
     )?;
-    Ok(quietly(alloc, change))
+    Ok(Prepared::quiet(alloc, change))
 }
 
 /// A Confirm: the sender becomes the link of each side whose gate is its with this attempt.
@@ -104,7 +104,7 @@ pub(crate) fn on_confirm(
             from,
             attempt,
         ),
-        None => Ok(quietly(alloc, Change::nothing())),
+        None => Ok(Prepared::quiet(alloc, Change::nothing())),
     }
 }
 
@@ -122,7 +122,7 @@ fn confirmed(
 {
     let mut after = *links;
     if !after.confirm(node.me, from, attempt) {
-        return Ok(quietly(alloc, Change::nothing()));
+        return Ok(Prepared::quiet(alloc, Change::nothing()));
     }
     let seat = SeatChange::Ready {
         attempt: node.seat.joiner().attempt(),
@@ -138,5 +138,5 @@ fn confirmed(
         past: PastChange::Keep,
     };
     let change = Change::of(alloc, rest, Wait::Keep)?;
-    Ok(quietly(alloc, change))
+    Ok(Prepared::quiet(alloc, change))
 }

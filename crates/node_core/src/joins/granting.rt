@@ -14,10 +14,10 @@ use coverage::Reach;
 use file_store::FileStore;
 use gate_core::Gate;
 use node_parts::{
-    Change, GateChange, Learn, Lease, Lists, Node, PastChange, Prepared, Rest, SeatChange,
-    StoreChange, Wait,
+    Change, GateChange, Learn, Lease, Node, PastChange, Prepared, Rest, SeatChange, StoreChange,
+    Wait,
 };
-use replica_handover::{in_gap, tombs_in_gap};
+use replica_handover::{Pledge, in_gap, tombs_in_gap};
 use ring_math::{FileId, Id, OutOfMemory};
 use std::alloc::Global;
 use wire_msg::{Message, Notes, Outgoing, Reply, Sends};
@@ -53,21 +53,21 @@ pub(crate) fn granted(
     store: &FileStore,
     to: Id,
     attempt: u32,
-    lists: &Lists,
+    lists: &Pledge,
 ) -> Result<Sends, OutOfMemory>
     ensures { IfOk result (λ messages. messages ≡ granted_of to attempt lists.now store.now.files) }
 {
     let mut messages = Sends::new(alloc);
     let message = Message::Grant {
         attempt,
-        manifest: lists.manifest.copy(alloc)?,
-        tombs: lists.tombs.copy(alloc)?,
+        manifest: lists.manifest().copy(alloc)?,
+        tombs: lists.tombs().copy(alloc)?,
     };
     messages.push(Outgoing {
         receiver: to,
         message,
     })?;
-    hand_over(alloc, &mut messages, store, to, lists.manifest.as_slice())?;
+    hand_over(alloc, &mut messages, store, to, lists.manifest().as_slice())?;
     Ok(messages)
 }
 
@@ -77,12 +77,12 @@ fn lists_in_gap(
     store: &FileStore,
     reach: &Reach,
     joiner: Id,
-) -> Result<Lists, OutOfMemory>
+) -> Result<Pledge, OutOfMemory>
     ensures { IfOk result (λ lists. lists ≡ lists_in_gap_of reach.now joiner store.now.files) }
 {
     let manifest = in_gap(alloc, store, reach, joiner)?;
     let tombs = tombs_in_gap(alloc, store, reach, joiner)?;
-    Ok(Lists { manifest, tombs })
+    Ok(Pledge::new(manifest, tombs))
 }
 
 /// The gate of a side: a new one where the side is asked for, else what is left of the old one.
@@ -90,7 +90,7 @@ fn set_gate(
     alloc: Global,
     asked: bool,
     gate: &Gate,
-    lists: &Lists,
+    lists: &Pledge,
     held: &Option<Lease>,
 ) -> Result<GateChange, OutOfMemory>
     ensures { IfOk result (λ change. gate_after change held.now ≡
@@ -115,7 +115,7 @@ pub(crate) fn open(
     gate: &Gate,
 ) -> Result<Prepared, OutOfMemory>
     ensures { (known : List ℕ) → IfOk result (λ p. Plans (seen node.now known) p
-        (opened (cleared (seen node.now known) gate.now.joiner gate.now.attempt) reach.now gate.now.joiner gate.now.attempt gate.now.left gate.now.right
+        (opened (cleared (seen node.now known) gate.now.joiner gate.now.attempt) reach.now gate.now
         (lists_in_gap_of reach.now gate.now.joiner node.now.store.files))) }
 {
     let lists = lists_in_gap(alloc, &node.store, reach, gate.joiner)?;

@@ -7,12 +7,10 @@ ghost use Rattle.overlay_rules.specs.Gatekeeper.{on_probe as on_probe_of};
 ghost use Rattle.node_parts.specs.Seen.{seen, Shows};
 ghost use Rattle.node_parts.specs.Plans.{Plans};
 ghost use Rattle.node_core.specs.Asked.{probes_sent, leases_asked};
-ghost use Rattle.node_core.specs.Awaited.{is_asking, is_awaited};
 
 use join_core::{Joiner, ProbeStep};
 use node_parts::{
-    Change, Learn, Node, Prepared, first_left, first_right, leaves_of, quietly, send_to_each,
-    sending, sent_to_both,
+    Change, Learn, Node, Prepared, first_left, first_right, leaves_of, send_to_each, sent_to_both,
 };
 use ring_math::{Id, Ids, OutOfMemory};
 use std::alloc::Global;
@@ -29,25 +27,15 @@ pub(crate) fn on_probe(
     ensures { (known : List ℕ) → Shows node.now known → IfOk result (λ p. Plans (seen node.now known) p (on_probe_of (seen node.now known) from attempt)) }
 {
     if !node.seat.is_ready() {
-        return Ok(quietly(alloc, Change::nothing()));
+        return Ok(Prepared::quiet(alloc, Change::nothing()));
     }
     let members = node.members(alloc)?;
-    sending(
+    Prepared::sending(
         alloc,
         Change::nothing(),
         from,
         Message::ProbeReply { attempt, members },
     )
-}
-
-/// Whether the joiner waits for the answer to its request.
-fn asks(joiner: &Joiner, attempt: u32) -> bool
-    ensures { result ≡ is_asking joiner.now attempt }
-{
-    match joiner {
-        Joiner::Asking { attempt: own, .. } => attempt == own.get(),
-        _ => false,
-    }
 }
 
 /// A JoinReply. One that comes again changes nothing, so that is seen before anything is learnt from it.
@@ -58,10 +46,11 @@ pub(crate) fn on_join_reply(
     attempt: u32,
     members: &Ids,
 ) -> Result<Prepared, OutOfMemory>
-    ensures { (known : List ℕ) → Shows node.now known → IfOk result (λ p. Plans (seen node.now known) p (on_join_reply_of (seen node.now known) attempt members.now)) }
+    ensures { (known : List ℕ) → Shows node.now known →
+        IfOk result (λ p. Plans (seen node.now known) p (on_join_reply_of (seen node.now known) attempt members.now)) }
 {
-    if !asks(node.seat.joiner(), attempt) {
-        return Ok(quietly(alloc, Change::nothing()));
+    if !node.seat.joiner().is_asking(attempt) {
+        return Ok(Prepared::quiet(alloc, Change::nothing()));
     }
     welcomed(node, alloc, attempt, members)
 }
@@ -74,7 +63,8 @@ fn welcomed(
     attempt: u32,
     members: &Ids,
 ) -> Result<Prepared, OutOfMemory>
-    ensures { (known : List ℕ) → Shows node.now known → IfOk result (λ p. Plans (seen node.now known) p (on_join_reply_of (seen node.now known) attempt members.now)) }
+    ensures { (known : List ℕ) → Shows node.now known →
+        IfOk result (λ p. Plans (seen node.now known) p (on_join_reply_of (seen node.now known) attempt members.now)) }
 {
     let leafs = node.leafs_after(members.as_slice());
     let leaves = leaves_of(alloc, &leafs)?;
@@ -82,7 +72,7 @@ fn welcomed(
     let answer = joiner.on_reply(alloc, attempt, &leaves)?;
     match answer {
         Some(probes) => probing(alloc, joiner, members, probes.as_slice()),
-        None => Ok(quietly(alloc, Change::nothing())),
+        None => Ok(Prepared::quiet(alloc, Change::nothing())),
     }
 }
 
@@ -109,20 +99,6 @@ fn probing(
     })
 }
 
-/// Whether the joiner waits for this answer to a probe.
-fn awaits(joiner: &Joiner, from: Id, attempt: u32) -> bool
-    ensures { result ≡ is_awaited joiner.now from attempt }
-{
-    match joiner {
-        Joiner::Probing {
-            attempt: own,
-            probed,
-            ..
-        } => attempt == own.get() && probed.awaits(from),
-        _ => false,
-    }
-}
-
 /// A ProbeReply. Most come to a node that waits for none, so that is seen before anything is learnt from it.
 #[inline(never)]
 pub(crate) fn on_probe_reply(
@@ -132,10 +108,11 @@ pub(crate) fn on_probe_reply(
     attempt: u32,
     members: &Ids,
 ) -> Result<Prepared, OutOfMemory>
-    ensures { (known : List ℕ) → Shows node.now known → IfOk result (λ p. Plans (seen node.now known) p (on_probe_reply_of (seen node.now known) from attempt members.now)) }
+    ensures { (known : List ℕ) → Shows node.now known →
+        IfOk result (λ p. Plans (seen node.now known) p (on_probe_reply_of (seen node.now known) from attempt members.now)) }
 {
-    if !awaits(node.seat.joiner(), from, attempt) {
-        return Ok(quietly(alloc, Change::nothing()));
+    if !node.seat.joiner().awaits(from, attempt) {
+        return Ok(Prepared::quiet(alloc, Change::nothing()));
     }
     heard(node, alloc, from, attempt, members)
 }
@@ -149,7 +126,8 @@ fn heard(
     attempt: u32,
     members: &Ids,
 ) -> Result<Prepared, OutOfMemory>
-    ensures { (known : List ℕ) → Shows node.now known → IfOk result (λ p. Plans (seen node.now known) p (on_probe_reply_of (seen node.now known) from attempt members.now)) }
+    ensures { (known : List ℕ) → Shows node.now known →
+        IfOk result (λ p. Plans (seen node.now known) p (on_probe_reply_of (seen node.now known) from attempt members.now)) }
 {
     let leafs = node.leafs_after(members.as_slice());
     let leaves = leaves_of(alloc, &leafs)?;
@@ -164,7 +142,7 @@ fn heard(
             left,
             right,
         } => leasing(alloc, joiner, members, attempt, left, right),
-        ProbeStep::Dropped => Ok(quietly(alloc, Change::nothing())),
+        ProbeStep::Dropped => Ok(Prepared::quiet(alloc, Change::nothing())),
     }
 }
 

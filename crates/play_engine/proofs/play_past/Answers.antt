@@ -10,7 +10,8 @@ loop-player-smaller g c =
 pub returns-clause-played : goal.returns-clause-played
 returns-clause-played g c =
     let same : c.advance.new.self ≡ c.loop-player.player = when_false _ _ c.in_ok-advance.field-0 c.if-branch.false c.in_ok-advance.ensures.turn in
-    whole_record c.args.scenario.now c.loop-player.player.recorded.entries _ c.loop-player.player.skipped _ (c.in_ok-advance.ensures.exactly.0 c.if-branch.false)
+    whole_record c.args.scenario.now c.loop-player.player.recorded.entries _ c.loop-player.player.skipped _
+    (c.in_ok-advance.ensures.exactly.0 c.if-branch.false)
     (c.finish.ensures.entries ∙ ap (λ (a : Progress). a.recorded.entries) same) (c.finish.ensures.skipped ∙ ap (λ (a : Progress). a.skipped) same)
 
 pub returns-clause-legal : goal.returns-clause-legal

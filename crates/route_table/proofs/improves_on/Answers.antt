@@ -13,8 +13,10 @@ and_false false b e = refl
 
 pub returns-then-nearer_than : goal.returns-then-nearer_than
 returns-then-nearer_than c =
-    rw c.shared.ensures (and_true (nat_le c.args.least (shared_of c.args.id c.args.key)) (is_nearer c.args.id c.args.other c.args.key) (sym c.nearer_than.ensures ∙ c.if-nearer_than.true))
+    rw c.shared.ensures.value (and_true (nat_le c.args.least (shared_of c.args.id c.args.key)) (is_nearer c.args.id c.args.other c.args.key)
+    (sym c.nearer_than.ensures ∙ c.if-nearer_than.true))
 
 pub returns-else-nearer_than : goal.returns-else-nearer_than
 returns-else-nearer_than c =
-    c.if-nearer_than.false ∙ and_false (nat_le c.args.least (shared_of c.args.id c.args.key)) (is_nearer c.args.id c.args.other c.args.key) (sym c.nearer_than.ensures ∙ c.if-nearer_than.false)
+    c.if-nearer_than.false ∙ and_false (nat_le c.args.least (shared_of c.args.id c.args.key)) (is_nearer c.args.id c.args.other c.args.key)
+    (sym c.nearer_than.ensures ∙ c.if-nearer_than.false)

@@ -42,7 +42,8 @@ returns-in-Err c =
         usage = λ e none.
             let x : ◌≡◌ {A = Result Mode WordFault} (Err c.fault_in.result) (Err Usage) = e in
             let is_usage : c.fault_in.result ≡ Usage = (cc) in
-            let h : HasKind [] c.in-Err.error = subst (λ (k : Kinds). HasKind k c.in-Err.error) (ap (λ (a : App). fault_of a words) cmd.2 ∙ none) (c.in-Err.ensures.kinds free) in
+            let h : HasKind [] c.in-Err.error = subst (λ (k : Kinds). HasKind k c.in-Err.error) (ap (λ (a : App). fault_of a words) cmd.2 ∙ none)
+            (c.in-Err.ensures.kinds free) in
             ⊎_elim (λ oom. c.fault_in.ensures.usage is_usage oom) (λ x. x) h;
       },
     )

@@ -13,10 +13,12 @@ loop-entry-preserved c =
     let e = c.entry-item.result in
     let notes = notes_in-take es i e c.loop-entry-test.true c.entry-item.is in
     let items = c.loop-entry.closings.items in
-    let back = written_back items c.take_in_all.new.closings c.loop-entry.closings.len (omega arith) (c.take_in_all.auto.closings ∙ ap length c.deref_mut.ensures.value) in
+    let back = written_back items c.take_in_all.new.closings c.loop-entry.closings.len (omega arith)
+    (c.take_in_all.auto.closings ∙ ap length c.deref_mut.ensures.value) in
     record {
       all = ap length back ∙ c.take_in_all.auto.closings ∙ ap length c.deref_mut.ensures.value ∙ c.loop-entry.invariant.all;
-      closed = λ k within. ap (λ xs. option_copied (get_or xs k None)) back ∙ c.take_in_all.ensures k (omega (arith, ap length c.deref_mut.ensures.value, c.loop-entry.invariant.all)) ∙
+      closed = λ k within. ap (λ xs. option_copied (get_or xs k None)) back
+          ∙ c.take_in_all.ensures k (omega (arith, ap length c.deref_mut.ensures.value, c.loop-entry.invariant.all)) ∙
           ap (λ xs. option_or (option_copied (get_or xs k None)) (closing_of (k + 1) c.as_slice.result.now)) c.deref_mut.ensures.value ∙
           ap (λ o. option_or o (closing_of (k + 1) c.as_slice.result.now)) (c.loop-entry.invariant.closed k within) ∙
           ap (λ ns. option_or (closing_of (k + 1) (notes_in (take i es))) (closing_of (k + 1) ns)) c.as_slice.ensures ∙

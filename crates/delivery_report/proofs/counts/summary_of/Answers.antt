@@ -3,7 +3,7 @@ use Rattle.std.specs.List.{list_any, count_by}
 use Rattle.overlay_rules.specs.Record.{IsRecord, sent_in, run, world_at_start}
 use Rattle.overlay_rules.specs.Played.{is_delivery_of}
 use Rattle.overlay_rules.specs.Table.{notes_in}
-use Rattle.ring_laws.specs.Hops.{ready_count}
+use Rattle.step_facts.specs.ReadyCount.{ready_count}
 use Rattle.delivery_report.specs.Report.{undelivered_among, is_delivery}
 use Rattle.delivery_report.proofs.Joins.{ready-joinings}
 use Rattle.delivery_report.proofs.Marks.{undelivered-by_marks}
@@ -14,8 +14,10 @@ returns c g legal =
     let es = c.as_slice-entries.result.now in
     let marks = c.in_ok-delivered.delivered.items in
     let sent : length marks ≡ length (sent_in es) = c.in_ok-delivered.ensures.sent in
-    let marked = undelivered-by_marks es marks 0 (λ k within. c.in_ok-delivered.ensures.marked k within ∙ ap (λ n. list_any (λ e. is_delivery_of n e.event) es) (sym (zero-add k))) in
-    let undelivered : c.count_unset.result ≡ undelivered_among es 0 (length (sent_in es)) = c.count_unset.ensures ∙ ap (count_by not) c.deref.ensures.value ∙ marked ∙ ap (undelivered_among es 0) sent in
+    let marked = undelivered-by_marks es marks 0
+    (λ k within. c.in_ok-delivered.ensures.marked k within ∙ ap (λ n. list_any (λ e. is_delivery_of n e.event) es) (sym (zero-add k))) in
+    let undelivered : c.count_unset.result ≡ undelivered_among es 0 (length (sent_in es)) =
+    c.count_unset.ensures ∙ ap (count_by not) c.deref.ensures.value ∙ marked ∙ ap (undelivered_among es 0) sent in
     let count : c.len.result ≡ length (sent_in es) = omega (arith, c.len.ensures, sent) in
     let deliveries : c.in_ok-noted.noted.deliveries ≡ count_by is_delivery (notes_in es) = c.in_ok-noted.ensures.deliveries in
     let ready : c.in_ok-noted.noted.ready ≡ ready_count g (run (world_at_start g) es) =

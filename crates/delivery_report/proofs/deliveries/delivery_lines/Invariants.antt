@@ -7,5 +7,6 @@ use Rattle.delivery_report.proofs.deliveries.delivery_lines.Given as goal
 abbrev pub invariant-loop-entry : goal.invariant-loop-entry
 invariant-loop-entry l = record {
   receivers : receivers_of (sent_in (take l.entry-index l.entries)) ≡ l.receivers.items;
-  lines : l.text ++ lines_after l.names (sent_in (take l.entry-index l.entries)) (drop l.entry-index l.entries) ≡ l.initial.text ++ delivery_lines l.names l.entries;
+  lines : l.text ++ lines_after l.names (sent_in (take l.entry-index l.entries)) (drop l.entry-index l.entries) ≡ l.initial.text
+      ++ delivery_lines l.names l.entries;
 }

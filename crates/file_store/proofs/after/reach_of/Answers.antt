@@ -23,7 +23,9 @@ loop-place-preserved c =
     let known = has_entry files (get_or tombs i []) || is_named (take i tombs) (get_or tombs i []) in
     elim c.if-is_new.branch [
       | then-is_new+else-spare-eq0 w ↦
-          rw w.spare-is (spares-new files tombs i c.loop-place.spare (omega arith) c.loop-place.invariant (omega (arith, w.if-spare-eq0.false)) (not_true _ known c.is_new.ensures w.if-is_new.true))
+          rw w.spare-is (spares-new files tombs i c.loop-place.spare (omega arith) c.loop-place.invariant (omega (arith, w.if-spare-eq0.false))
+          (not_true _ known c.is_new.ensures w.if-is_new.true))
       | else-is_new w ↦
-          rw w.spare-is (spares-old files tombs i c.loop-place.spare c.entries-spare.ensures.rising (omega arith) c.loop-place.invariant (not_false _ known c.is_new.ensures w.if-is_new.false))
+          rw w.spare-is (spares-old files tombs i c.loop-place.spare c.entries-spare.ensures.rising (omega arith) c.loop-place.invariant
+          (not_false _ known c.is_new.ensures w.if-is_new.false))
     ]

@@ -9,7 +9,8 @@ pub returns : goal.returns
 returns c =
     rw c.nearer_of.ensures
     (found_says (better_in (in_order c.args.self.now) c.args.key c.args.least c.args.than) c.args.key _
-    (subst (λ (s : Leaves). Found (better_in (in_order s) c.args.key c.args.least c.args.than) c.args.key (nearer_of c.best.result c.best-2.result c.args.key)) c.self.view_is
+    (subst (λ (s : Leaves). Found (better_in (in_order s) c.args.key c.args.least c.args.than) c.args.key
+    (nearer_of c.best.result c.best-2.result c.args.key)) c.self.view_is
     (found_better_leaf c.self.inside.right c.self.inside.left c.args.key c.args.least c.args.than c.best.result c.best-2.result
     (says_found (better_in c.self.inside.right c.args.key c.args.least c.args.than) _ _ c.best.ensures)
     (says_found (better_in c.self.inside.left c.args.key c.args.least c.args.than) _ _ c.best-2.ensures))))

@@ -1,5 +1,6 @@
 use Rattle.std.proofs.Common.{◌≡◌, false, take, sym, ◌∙◌, ap, subst, ◌==◌}
 use Rattle.std.proofs.lemmas.Bool.{eqb-true}
+use Rattle.ring_math.specs.declared.limits.TheConstants.{LEAVES_PER_SIDE}
 use Rattle.ring_math.specs.Ring.{cw_of}
 use Rattle.ring_math.specs.Sides.{placed}
 use Rattle.leaf_set.specs.Leaves.{Leaves}
@@ -21,5 +22,7 @@ returns-clause-stands c = λ known st.
     (subst (λ (s : Leaves). (c.args.id == s.me) ≡ false) c.self.view_is (sym c.eq.ensures ∙ c.if-eq.false))
     (sym c.has.ensures ∙ c.if-has.false)
     (ap (λ (s : Leaves). s.me) c.self.view_is)
-    (subst (λ (s : Leaves). c.place-on_right.new.self ≡ take 8 (placed (λ z. cw_of s.me z) c.args.id s.right)) c.self.view_is c.place-on_right.ensures.placed)
-    (subst (λ (s : Leaves). c.place-on_left.new.self ≡ take 8 (placed (λ z. cw_of z s.me) c.args.id s.left)) c.self.view_is c.place-on_left.ensures.placed)
+    (subst (λ (s : Leaves). c.place-on_right.new.self ≡ take LEAVES_PER_SIDE (placed (λ z. cw_of s.me z) c.args.id s.right)) c.self.view_is
+    c.place-on_right.ensures.placed)
+    (subst (λ (s : Leaves). c.place-on_left.new.self ≡ take LEAVES_PER_SIDE (placed (λ z. cw_of z s.me) c.args.id s.left)) c.self.view_is
+    c.place-on_left.ensures.placed)

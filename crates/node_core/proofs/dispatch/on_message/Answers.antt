@@ -1,17 +1,38 @@
+use Rattle.std.proofs.Common.{subst}
+use Rattle.overlay_rules.specs.Routed.{on_lookup}
+use Rattle.overlay_rules.specs.Roots.{on_insert, on_fetch, on_reclaim}
 use Rattle.node_parts.specs.Seen.{seen}
+use Rattle.node_core.specs.declared.request.Request.{Request}
+use Rattle.node_core.specs.Rows.{IsRow}
 use Rattle.node_core.proofs.dispatch.on_message.Goals as goal
 
 pub returns-in-Lookup : goal.returns-in-Lookup
-returns-in-Lookup c = λ known h. rw c.in-Lookup.is (c.on_lookup.ensures known h)
+returns-in-Lookup c = λ known h.
+    rw c.in-Lookup.is
+    (subst (λ (r : Request). IsRow c.args.node.now r.wait (λ s. on_lookup s r.origin r.number c.in-Lookup.key c.in-Lookup.hops) c.on_lookup.result)
+    c.on_its_way-request.ensures
+    c.on_lookup.ensures known h)
 
 pub returns-in-Insert : goal.returns-in-Insert
-returns-in-Insert c = λ known h. rw c.in-Insert.is (c.on_insert.ensures known h)
+returns-in-Insert c = λ known h.
+    rw c.in-Insert.is
+    (subst (λ (r : Request). IsRow c.args.node.now r.wait
+    (λ s. on_insert s r.origin r.number c.in-Insert.hops c.in-Insert.file c.in-Insert.copies c.in-Insert.bytes) c.on_insert.result)
+    c.on_its_way-request-in-Insert.ensures c.on_insert.ensures known h)
 
 pub returns-in-Fetch : goal.returns-in-Fetch
-returns-in-Fetch c = λ known h. rw c.in-Fetch.is (c.on_fetch.ensures known h)
+returns-in-Fetch c = λ known h.
+    rw c.in-Fetch.is
+    (subst (λ (r : Request). IsRow c.args.node.now r.wait (λ s. on_fetch s r.origin r.number c.in-Fetch.hops c.in-Fetch.file) c.on_fetch.result)
+    c.on_its_way-request-in-Fetch.ensures
+    c.on_fetch.ensures known h)
 
 pub returns-in-Reclaim : goal.returns-in-Reclaim
-returns-in-Reclaim c = λ known h. rw c.in-Reclaim.is (c.on_reclaim.ensures known h)
+returns-in-Reclaim c = λ known h.
+    rw c.in-Reclaim.is
+    (subst (λ (r : Request). IsRow c.args.node.now r.wait (λ s. on_reclaim s r.origin r.number c.in-Reclaim.hops c.in-Reclaim.file) c.on_reclaim.result)
+    c.on_its_way-request-in-Reclaim.ensures
+    c.on_reclaim.ensures known h)
 
 pub returns-in-LookupReply : goal.returns-in-LookupReply
 returns-in-LookupReply c = λ known h. rw c.in-LookupReply.is (c.on_reply.ensures known h)

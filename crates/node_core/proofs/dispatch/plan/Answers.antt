@@ -8,4 +8,4 @@ pub returns-in-Message : goal.returns-in-Message
 returns-in-Message c = λ known h. rw c.in-Message.is (c.on_message.ensures known h)
 
 pub returns-in-Noise : goal.returns-in-Noise
-returns-in-Noise c = λ known h. rw c.in-Noise.is (c.quietly.ensures _ _ (c.nothing.ensures (seen c.args.node.now known)))
+returns-in-Noise c = λ known h. rw c.in-Noise.is (c.quiet.ensures _ _ (c.nothing.ensures (seen c.args.node.now known)))

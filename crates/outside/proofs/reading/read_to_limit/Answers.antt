@@ -1,4 +1,5 @@
-use Rattle.std.proofs.Common.{◌≡◌, ◌<◌, ◌-◌, ◌++◌, ℕ, List, Result, Ok, Err, IsErrAnd, min, vec_len, length, take, drop, length-take, append_assoc, subst, sym, ap, ◌∙◌, arith}
+use Rattle.std.proofs.Common.{◌≡◌, ◌<◌, ◌-◌, ◌++◌, ℕ, List, Result, Ok, Err, IsErrAnd, min, vec_len, length, take, drop, length-take, append_assoc, subst, sym}
+use Rattle.std.proofs.Common.{ap, ◌∙◌, arith}
 use Rattle.std.proofs.lemmas.List.{take-append-le}
 use Rattle.outside.specs.Reading.{Offers, Reads, outcome_of}
 use Rattle.outside.specs.Reading.Reads.{enough, ended, failed, refused, went_on}
@@ -12,7 +13,8 @@ offers : (buf : List ℕ) (read most room : ℕ) → length buf ≡ 4096 → rea
 offers buf read most room whole short is = record { wants = short; asks = omega (arith, length-take room buf) }
 
 -- what holds of want of memory holds of the fault that `?` hands on
-at_refusal : {V : Type 0} (size : V → ℕ) (r : Result V ReadFault) (P : Result ℕ ReadFault → Type 0) → IsErrAnd r (λ fault. fault ≡ OutOfMemory) → P (Err OutOfMemory) → P (outcome_of size r)
+at_refusal : {V : Type 0} (size : V → ℕ) (r : Result V ReadFault) (P : Result ℕ ReadFault → Type 0) → IsErrAnd r (λ fault. fault ≡ OutOfMemory) →
+    P (Err OutOfMemory) → P (outcome_of size r)
 at_refusal size (Ok v) P is p = absurd is
 at_refusal size (Err fault) P is p = subst (λ e. P (Err e)) (sym is) p
 
@@ -26,13 +28,15 @@ loop-buf-preserved g c =
           (λ xs ys zs was now. rw (appended.items, front, append_assoc) (was ∙ ap (λ tail. c.loop-buf.read.items ++ tail) now));
       calls = λ outcome after rest. c.loop-buf.invariant.calls outcome after
           (went_on _ _ _ _ _ c.in-Got.count outcome (offers _ _ _ _ (omega arith) (omega arith) (omega arith)) c.in-Got.ensures.step
-          (subst (λ read. Reads g.S.Source.gives c.args.most c.read_some.new.self read outcome after) (omega (arith, appended.len, c.in-Got.ensures.size, length-take {A = ℕ})) rest));
+          (subst (λ read. Reads g.S.Source.gives c.args.most c.read_some.new.self read outcome after)
+          (omega (arith, appended.len, c.in-Got.ensures.size, length-take {A = ℕ})) rest));
       count = omega (arith, c.in-Got.ensures.count, c.loop-buf.invariant.count);
     }
 
 pub returns-in_err-extend_from_slice-in-Got-clause-calls : goal.returns-in_err-extend_from_slice-in-Got-clause-calls
 returns-in_err-extend_from_slice-in-Got-clause-calls g c =
-    at_refusal vec_len c.from_residual.result (λ outcome. Reads g.S.Source.gives c.args.most c.args.source.now 0 outcome c.read_some.new.self) c.from_residual.ensures.1
+    at_refusal vec_len c.from_residual.result
+    (λ outcome. Reads g.S.Source.gives c.args.most c.args.source.now 0 outcome c.read_some.new.self) c.from_residual.ensures.1
     (c.loop-buf.invariant.calls _ _ (refused _ _ _ _ c.in-Got.count (offers _ _ _ _ (omega arith) (omega arith) (omega arith)) c.in-Got.ensures.step))
 
 pub returns-in-End-clause-calls : goal.returns-in-End-clause-calls

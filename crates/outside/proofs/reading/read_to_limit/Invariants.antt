@@ -8,7 +8,8 @@ abbrev pub invariant-loop-buf : goal.invariant-loop-buf
 invariant-loop-buf g l = record {
   limit : vec_len l.read ≤ l.most;
   told : Told (g.S.Source.left l.initial.source) (g.S.Source.left l.source) (λ before after. before ≡ l.read.items ++ after);
-  calls : (outcome : Result ℕ ReadFault) (after : _) → Reads g.S.Source.gives l.most l.source (vec_len l.read) outcome after → Reads g.S.Source.gives l.most l.initial.source 0 outcome after;
+  calls : (outcome : Result ℕ ReadFault) (after : _) → Reads g.S.Source.gives l.most l.source (vec_len l.read) outcome after →
+      Reads g.S.Source.gives l.most l.initial.source 0 outcome after;
   count : g.S.Source.faults l.initial.source ≤ g.S.Source.faults l.source;
 }
 

@@ -12,7 +12,8 @@ loop-written-preserved g c = record {
   told = Told-then _ _ _ _ _ _ c.loop-written.invariant.told c.in-Took.ensures.bytes
       (λ xs ys zs was now. rw (take-add c.loop-written.written c.in-Took.count, ← append_assoc, ← was) (rw take_rest at now));
   calls = λ end after rest. c.loop-written.invariant.calls end after
-      (went_on _ _ _ _ _ c.in-Took.count end (omega (arith, length-drop {A = ℕ})) (rw take_rest at c.in-Took.ensures.step) (sym (drop-drop c.in-Took.count c.loop-written.written c.args.bytes.now)) rest);
+      (went_on _ _ _ _ _ c.in-Took.count end (omega (arith, length-drop {A = ℕ})) (rw take_rest at c.in-Took.ensures.step)
+      (sym (drop-drop c.in-Took.count c.loop-written.written c.args.bytes.now)) rest);
   count = omega (arith, c.in-Took.ensures.count, c.loop-written.invariant.count);
 }
 

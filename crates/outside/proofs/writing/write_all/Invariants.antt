@@ -8,7 +8,8 @@ abbrev pub invariant-loop-written : goal.invariant-loop-written
 invariant-loop-written g l = record {
   within : l.written ≤ length l.bytes;
   told : Told (g.K.Sink.taken l.initial.sink) (g.K.Sink.taken l.sink) (λ before after. after ≡ before ++ take l.written l.bytes);
-  calls : (end : Result Unit WriteFault) (after : _) → Writes g.K.Sink.takes l.sink (drop l.written l.bytes) end after → Writes g.K.Sink.takes l.initial.sink l.bytes end after;
+  calls : (end : Result Unit WriteFault) (after : _) → Writes g.K.Sink.takes l.sink (drop l.written l.bytes) end after →
+      Writes g.K.Sink.takes l.initial.sink l.bytes end after;
   count : g.K.Sink.faults l.initial.sink ≤ g.K.Sink.faults l.sink;
 }
 

@@ -1,7 +1,5 @@
 use Rattle.std.proofs.Common.{inr}
-use Rattle.outside.specs.Sink.{BreaksOff}
 use Rattle.cli_words.specs.declared.mode.Mode.TheVariants.{Play, Big}
-use Rattle.pastry.specs.Runs.{Appends}
 use Rattle.pastry.proofs.Words.{AskFor-from_read, AreUsage-from_read, not_both_modes}
 use Rattle.pastry.proofs.Played.{HasRun-from_play, HasRun-from_big}
 use Rattle.pastry.proofs.Endings.{answers, big_is_done, due_as_named, steady_count}
@@ -11,23 +9,27 @@ use Rattle.pastry.proofs.top.top.Goals as goal
 
 pub returns-in-Ok-Play-clause-done : goal.returns-in-Ok-Play-clause-done
 returns-in-Ok-Play-clause-done g c = λ e.
-    HasRun-from_play Appends _ _ _ _ g.S.Source.left _ _
+    HasRun-from_play _ _ _ g.S.Source.left _ _
     (AskFor-from_read _ _ _ c.in-Ok-Play.field-0-is (record { reads = c.in-Ok-Play.ensures.reads; plain = c.in-Ok-Play.ensures.plain }))
     (c.play_mode.ensures.done e)
 
 pub returns-in-Ok-Play-clause-broken_off : goal.returns-in-Ok-Play-clause-broken_off
 returns-in-Ok-Play-clause-broken_off g c = λ e.
-    HasRun-from_play BreaksOff _ _ _ _ g.S.Source.left _ _
+    HasRun-from_play _ _ _ g.S.Source.left _ _
     (AskFor-from_read _ _ _ c.in-Ok-Play.field-0-is (record { reads = c.in-Ok-Play.ensures.reads; plain = c.in-Ok-Play.ensures.plain }))
     (c.play_mode.ensures.broken_off e)
 
 pub returns-in-Ok-Play-clause-refused : goal.returns-in-Ok-Play-clause-refused
-returns-in-Ok-Play-clause-refused g c = λ f e.
-    (AskFor-from_read _ _ _ c.in-Ok-Play.field-0-is (record { reads = c.in-Ok-Play.ensures.reads; plain = c.in-Ok-Play.ensures.plain }), c.play_mode.ensures.refused f e)
+returns-in-Ok-Play-clause-refused g c = λ f e. (
+  AskFor-from_read _ _ _ c.in-Ok-Play.field-0-is (record { reads = c.in-Ok-Play.ensures.reads; plain = c.in-Ok-Play.ensures.plain }),
+  c.play_mode.ensures.refused f e,
+)
 
 pub returns-in-Ok-Play-clause-unread : goal.returns-in-Ok-Play-clause-unread
-returns-in-Ok-Play-clause-unread g c = λ e.
-    (AskFor-from_read _ _ _ c.in-Ok-Play.field-0-is (record { reads = c.in-Ok-Play.ensures.reads; plain = c.in-Ok-Play.ensures.plain }), c.play_mode.ensures.unread e)
+returns-in-Ok-Play-clause-unread g c = λ e. (
+  AskFor-from_read _ _ _ c.in-Ok-Play.field-0-is (record { reads = c.in-Ok-Play.ensures.reads; plain = c.in-Ok-Play.ensures.plain }),
+  c.play_mode.ensures.unread e,
+)
 
 pub returns-in-Ok-Play-clause-complete : goal.returns-in-Ok-Play-clause-complete
 returns-in-Ok-Play-clause-complete g c = inr (inr (
@@ -70,19 +72,27 @@ returns-in-Ok-Play-clause-steady g c = λ source sink mode named.
 
 pub returns-in-Ok-Play-clause-left_alone : goal.returns-in-Ok-Play-clause-left_alone
 returns-in-Ok-Play-clause-left_alone g c = λ nodes seed named.
-    absurd (not_both_modes _ nodes seed (AskFor-from_read _ _ _ c.in-Ok-Play.field-0-is (record { reads = c.in-Ok-Play.ensures.reads; plain = c.in-Ok-Play.ensures.plain })) named)
+    absurd (not_both_modes _ nodes seed (AskFor-from_read _ _ _ c.in-Ok-Play.field-0-is
+    (record { reads = c.in-Ok-Play.ensures.reads; plain = c.in-Ok-Play.ensures.plain })) named)
+
+pub returns-in-Ok-Play-clause-untouched : goal.returns-in-Ok-Play-clause-untouched
+returns-in-Ok-Play-clause-untouched g c =
+    inr (
+      AskFor-from_read _ _ _ c.in-Ok-Play.field-0-is (record { reads = c.in-Ok-Play.ensures.reads; plain = c.in-Ok-Play.ensures.plain }),
+      c.play_mode.ensures.reads,
+    )
 
 -- ---- big
 
 pub returns-in-Ok-Big-clause-done : goal.returns-in-Ok-Big-clause-done
 returns-in-Ok-Big-clause-done g c = λ e.
-    HasRun-from_big Appends _ _ _ _ g.S.Source.left _ c.in-Ok-Big.nodes c.in-Ok-Big.seed
+    HasRun-from_big _ _ _ g.S.Source.left _ c.in-Ok-Big.nodes c.in-Ok-Big.seed
     (AskFor-from_read _ _ _ c.in-Ok-Big.field-0-is (record { reads = c.in-Ok-Big.ensures.reads; plain = c.in-Ok-Big.ensures.plain }))
     (c.big_mode.ensures.done e)
 
 pub returns-in-Ok-Big-clause-broken_off : goal.returns-in-Ok-Big-clause-broken_off
 returns-in-Ok-Big-clause-broken_off g c = λ e.
-    HasRun-from_big BreaksOff _ _ _ _ g.S.Source.left _ c.in-Ok-Big.nodes c.in-Ok-Big.seed
+    HasRun-from_big _ _ _ g.S.Source.left _ c.in-Ok-Big.nodes c.in-Ok-Big.seed
     (AskFor-from_read _ _ _ c.in-Ok-Big.field-0-is (record { reads = c.in-Ok-Big.ensures.reads; plain = c.in-Ok-Big.ensures.plain }))
     (c.big_mode.ensures.broken_off e)
 

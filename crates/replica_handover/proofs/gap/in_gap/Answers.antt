@@ -18,11 +18,13 @@ loop-place-preserved c =
           let room : length c.loop-place.found.files < c.loop-place.found.room = rw (c.loop-place.invariant.files, c.loop-place.invariant.room) (omega arith) in
           let added = w.found-is ∙ pushed c.loop-place.found w.push.new.self held.file w.push.result w.push.ensures.answer w.push.ensures.pushed room in
           record {
-            files = ap (λ (z : Roomy). z.files) added ∙ rw c.loop-place.invariant.files (sym (passed-more test files i held (omega arith) c.at-held.ensures (sym c.is_file_of.ensures ∙ w.if-is_file_of.true)));
+            files = ap (λ (z : Roomy). z.files) added ∙ rw c.loop-place.invariant.files
+                (sym (passed-more test files i held (omega arith) c.at-held.ensures (sym c.is_file_of.ensures ∙ w.if-is_file_of.true)));
             room = ap (λ (z : Roomy). z.room) added ∙ c.loop-place.invariant.room;
           }
       | else-is_file_of w ↦ record {
-        files = ap (λ (z : Roomy). z.files) w.found-is ∙ c.loop-place.invariant.files ∙ sym (passed-kept test files i held (omega arith) c.at-held.ensures (sym c.is_file_of.ensures ∙ w.if-is_file_of.false));
+        files = ap (λ (z : Roomy). z.files) w.found-is ∙ c.loop-place.invariant.files
+            ∙ sym (passed-kept test files i held (omega arith) c.at-held.ensures (sym c.is_file_of.ensures ∙ w.if-is_file_of.false));
         room = ap (λ (z : Roomy). z.room) w.found-is ∙ c.loop-place.invariant.room;
       }
     ]

@@ -19,18 +19,18 @@ refused (Err g) answer out f h e = let same = sym h ∙ e in cc
 
 pub place_of-requires : goal.place_of-requires
 place_of-requires c =
-    let bad = id_read-refused c.args.text.now c.in-Err.fault c.if-text-ne32.false
+    let bad = id_read-refused c.args.text.now c.in-Err.fault c.if-text.false
     (refused _ _ c.decode_to_slice.new.out _ c.decode_to_slice.ensures.value c.in-Err.is) in rw bad.1 refl
 
 pub returns-in-Ok : goal.returns-in-Ok
 returns-in-Ok c =
-    let read = id_read-decoded c.args.text.now c.decode_to_slice.new.out c.if-text-ne32.false
+    let read = id_read-decoded c.args.text.now c.decode_to_slice.new.out c.if-text.false
     (decoded _ _ _ c.decode_to_slice.ensures.value c.in-Ok.is) in
     ap Ok c.from_be_bytes.ensures ∙ sym read
 
 pub returns-in-Err : goal.returns-in-Err
 returns-in-Err c =
-    let bad = id_read-refused c.args.text.now c.in-Err.fault c.if-text-ne32.false
+    let bad = id_read-refused c.args.text.now c.in-Err.fault c.if-text.false
     (refused _ _ c.decode_to_slice.new.out _ c.decode_to_slice.ensures.value c.in-Err.is) in
     let place : faulty_place c.in-Err.fault ≡ Some bad.0 = ap faulty_place bad.1 in
     let same : c.place_of.result ≡ bad.0 = let named = c.place_of.ensures in cc in

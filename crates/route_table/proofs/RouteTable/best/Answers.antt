@@ -32,14 +32,16 @@ loop-entry-preserved c =
 
 pub returns-then-eq : goal.returns-then-eq
 returns-then-eq c =
-    let all : take c.loop-entry.entry-index c.entries-entry-items.result.now ≡ c.args.self.now.entries = take_all _ _ (omega arith) ∙ c.entries-entry-items.ensures in
+    let all : take c.loop-entry.entry-index c.entries-entry-items.result.now ≡ c.args.self.now.entries = take_all _ _ (omega arith)
+    ∙ c.entries-entry-items.ensures in
     none_improves c.args.self.now.entries c.args.key c.args.least c.args.than c.loop-entry.nearest
     (subst (λ es. Nearest es c.args.key c.args.least c.args.than c.loop-entry.nearest) all c.loop-entry.invariant.so_far)
     (eqb-true c.loop-entry.nearest c.args.than (sym c.eq.ensures ∙ c.if-eq.true))
 
 pub returns-else-eq : goal.returns-else-eq
 returns-else-eq c =
-    let all : take c.loop-entry.entry-index c.entries-entry-items.result.now ≡ c.args.self.now.entries = take_all _ _ (omega arith) ∙ c.entries-entry-items.ensures in
+    let all : take c.loop-entry.entry-index c.entries-entry-items.result.now ≡ c.args.self.now.entries = take_all _ _ (omega arith)
+    ∙ c.entries-entry-items.ensures in
     closest_improves c.args.self.now.entries c.args.key c.args.least c.args.than c.loop-entry.nearest
     (subst (λ es. Nearest es c.args.key c.args.least c.args.than c.loop-entry.nearest) all c.loop-entry.invariant.so_far)
     (λ same. let equal : c.eq.result ≡ true = c.eq.ensures ∙ eq-eqb c.loop-entry.nearest c.args.than same in cc)

@@ -13,4 +13,5 @@ returns-in-Some-clause-lines c =
 pub returns-in-None-clause-lines : goal.returns-in-None-clause-lines
 returns-in-None-clause-lines c =
     let text = c.args.text.now in
-    rw (take_rest text (length text), drop_all (length text) text (omega arith)) (lines_of-last text c.requires (NoneBelow-from_search 10 text (length text) c.in-None.ensures))
+    rw (take_rest text (length text), drop_all (length text) text (omega arith))
+    (lines_of-last text c.requires (NoneBelow-from_search 10 text (length text) c.in-None.ensures))

@@ -28,13 +28,15 @@ loop-step-preserved g c =
     let within : from + n < length c.args.items.now = place_within g.T.Named.name_of c.args.items.now marks from n c.requires before in
     record {
       within = omega (arith, within);
-      same = sym (find-later g.T.Named.name_of c.args.name.now c.args.items.now marks from n c.index-items-place.result c.requires before none c.index-items-place.is missed) ∙ c.loop-step.invariant.same;
+      same = sym (find-later g.T.Named.name_of c.args.name.now c.args.items.now marks from n c.index-items-place.result c.requires before none
+          c.index-items-place.is missed) ∙ c.loop-step.invariant.same;
     }
 
 pub returns : goal.returns
 returns g c =
     let marks = c.args.marks.now in
     let from = c.loop-step.from in
-    let none = rw (take_rest marks from, c.mark_of-mark.ensures) at (NoneBelow-from_search c.mark_of-mark.result _ _ (rw c.in_default.is at c.memchr.ensures)) in
+    let none = rw (take_rest marks from, c.mark_of-mark.ensures) at
+    (NoneBelow-from_search c.mark_of-mark.result _ _ (rw c.in_default.is at c.memchr.ensures)) in
     sym (find-nothing g.T.Named.name_of c.args.name.now c.args.items.now marks from c.requires c.loop-step.invariant.within none)
     ∙ c.loop-step.invariant.same

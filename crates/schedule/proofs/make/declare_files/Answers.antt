@@ -11,6 +11,7 @@ add_file-requires c =
 
 pub loop-file-preserved : goal.loop-file-preserved
 loop-file-preserved c =
-    file_added c.args.nodes c.args.made.now.seed c.loop-file.file c.args.builder.now c.loop-file.builder c.add_file.new.self _ c.loop-file.invariant c.in_ok-add_file.ensures.ok
+    file_added c.args.nodes c.args.made.now.seed c.loop-file.file c.args.builder.now c.loop-file.builder c.add_file.new.self _ c.loop-file.invariant
+    c.in_ok-add_file.ensures.ok
     (file_line_is c.args.nodes c.args.made.now.seed c.loop-file.file _ _ c.file-declared.result.now (c.as_bytes.ensures.value ∙ c.in_ok-name.ensures)
     (c.file-declared.ensures ∙ ap (λ n. made_file n c.args.made.now.seed c.loop-file.file) c.requires.of) c.in_ok-bytes.ensures)

@@ -10,5 +10,6 @@ add_node-requires c =
 
 pub loop-node-preserved : goal.loop-node-preserved
 loop-node-preserved c =
-    node_added c.args.made.now.seed c.loop-node.node c.args.builder.now c.loop-node.builder c.add_node.new.self _ c.loop-node.invariant c.in_ok-add_node.ensures.ok
+    node_added c.args.made.now.seed c.loop-node.node c.args.builder.now c.loop-node.builder c.add_node.new.self _ c.loop-node.invariant
+    c.in_ok-add_node.ensures.ok
     (node_line_is c.args.made.now.seed c.loop-node.node _ _ (c.as_bytes.ensures.value ∙ c.in_ok-name.ensures) c.id.ensures)

@@ -18,5 +18,6 @@ loop-file-preserved c =
 
 pub loop-file-2-preserved : goal.loop-file-2-preserved
 loop-file-2-preserved c =
-    tasks_counted (fetch_tasks c.args.nodes) (join_plan c.args.nodes ++ flat_map insert_tasks (range_with_len 0 20)) c.loop-file-2.tasks.items c.plan_fetch.new.tasks.items c.loop-file-2.file
+    tasks_counted (fetch_tasks c.args.nodes)
+    (join_plan c.args.nodes ++ flat_map insert_tasks (range_with_len 0 20)) c.loop-file-2.tasks.items c.plan_fetch.new.tasks.items c.loop-file-2.file
     c.loop-file-2.invariant c.in_ok-plan_fetch.ensures

@@ -7,7 +7,8 @@ use Rattle.wire_codec.proofs.decoder.decode.Goals as goal
 pub returns-in-Ok : goal.returns-in-Ok
 returns-in-Ok c = record {
   read = decoded_read c.args.bytes.now c.in-Ok.kind c.envelope_at.result (λ i. omega (arith, c.type_inv.bytes i)) c.in-Ok.ensures.value c.envelope_at.ensures;
-  spelled = decoded_spelled c.args.bytes.now c.in-Ok.kind c.envelope_at.result (λ i. omega (arith, c.type_inv.bytes i)) c.in-Ok.ensures.value c.envelope_at.ensures;
+  spelled = decoded_spelled c.args.bytes.now c.in-Ok.kind c.envelope_at.result
+      (λ i. omega (arith, c.type_inv.bytes i)) c.in-Ok.ensures.value c.envelope_at.ensures;
   refused = decoded_refused c.args.bytes.now c.in-Ok.kind c.envelope_at.result c.in-Ok.ensures.value c.envelope_at.ensures;
 }
 

@@ -17,7 +17,9 @@ loop-id-preserved c =
     let states = (world_at_start (record { nodes = c.args.ids.now; founder = c.args.founder })).states in
     record {
       ids = ap ids_of items ∙ ids-push c.loop-id.nodes.items node ∙ ap (λ ids. ids ++ node.me ∷ []) c.loop-id.invariant.ids
-          ∙ ap (λ (x : ℕ). take c.loop-id.id-index c.args.ids.now ++ x ∷ []) (me ∙ c.id-item.is) ∙ sym (take_more c.args.ids.now c.loop-id.id-index c.id-item.result c.loop-id-test.true);
+          ∙ ap (λ (x : ℕ). take c.loop-id.id-index c.args.ids.now ++ x ∷ []) (me ∙ c.id-item.is)
+          ∙ sym (take_more c.args.ids.now c.loop-id.id-index c.id-item.result c.loop-id-test.true);
       stand = subst (λ (ns : List Node). AllStand ns states) (sym items)
-          (all-push c.loop-id.nodes.items states node c.loop-id.invariant.stand (subst (λ (x : ℕ). Stands node (start x (x == c.args.founder))) (sym me) stands));
+          (all-push c.loop-id.nodes.items states node c.loop-id.invariant.stand
+          (subst (λ (x : ℕ). Stands node (start x (x == c.args.founder))) (sym me) stands));
     }

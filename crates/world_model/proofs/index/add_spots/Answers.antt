@@ -11,7 +11,8 @@ loop-place-preserved c =
     record {
       items = c.add_spot.ensures.items ∙ ap (λ ps. ps ++ record { entry = c.args.entry; place = c.loop-place.place } ∷ []) c.loop-place.invariant.items
           ∙ append_assoc old more (record { entry = c.args.entry; place = c.loop-place.place } ∷ [])
-          ∙ ap (λ ps. old ++ ps) (sym (spots_from-push c.args.entry 0 c.loop-place.place ∙ ap (λ k. more ++ record { entry = c.args.entry; place = k } ∷ []) (zero-add c.loop-place.place)));
+          ∙ ap (λ ps. old ++ ps) (sym (spots_from-push c.args.entry 0 c.loop-place.place
+          ∙ ap (λ k. more ++ record { entry = c.args.entry; place = k } ∷ []) (zero-add c.loop-place.place)));
       count = omega arith;
       room = omega arith;
     }

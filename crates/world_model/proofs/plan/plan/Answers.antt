@@ -22,5 +22,9 @@ returns-clause-planned c = λ states a.
       state = plans.state;
       sound = sound;
       entry = ap (λ (vs : List Envelope). record { event = c.args.event; messages = vs; notes = c.in_ok-messages.field-0.notes }) sent
-          ∙ ap (λ (ns : List Note). record { event = c.args.event; messages = map (enveloped c.args.stamp x) (step (states x) (plain_input c.args.input.now)).sends; notes = ns }) plans.notes;
+          ∙ ap (λ (ns : List Note). record {
+            event = c.args.event;
+            messages = map (enveloped c.args.stamp x) (step (states x) (plain_input c.args.input.now)).sends;
+            notes = ns;
+          }) plans.notes;
     }

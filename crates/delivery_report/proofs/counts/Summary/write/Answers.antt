@@ -6,7 +6,8 @@ use Rattle.delivery_report.proofs.counts.Summary.write.Goals as goal
 pub returns : goal.returns
 returns c =
     let s = c.args.self.now in
-    let entries : Grown c.args.text.now (codes "summary entries " ++ decimal s.entries) c.number_after.new.self = record { is = c.in_ok-number_after.ensures } in
+    let entries : Grown c.args.text.now (codes "summary entries " ++ decimal s.entries) c.number_after.new.self =
+    record { is = c.in_ok-number_after.ensures } in
     let sent = Grown-pair entries (codes " sent ") (decimal s.sent) c.in_ok-number_after-2.ensures in
     let undelivered = Grown-pair sent (codes " undelivered ") (decimal s.undelivered) c.in_ok-number_after-3.ensures in
     let deliveries = Grown-pair undelivered (codes " deliveries ") (decimal s.deliveries) c.in_ok-number_after-4.ensures in

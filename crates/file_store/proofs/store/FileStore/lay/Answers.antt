@@ -1,15 +1,16 @@
-use Rattle.std.proofs.Common.{sym, ◌∙◌, inl, inr}
-use Rattle.file_store.proofs.Burying.{can_set-buried, can_set-laid, buried-already, buried-full}
+use Rattle.std.proofs.Common.{◌≡◌, ◌||◌, true, sym, ◌∙◌, arith}
+use Rattle.std.proofs.lemmas.Bool.Decides.{nat_tests}
+use Rattle.ring_math.specs.Files.{has_entry, has_room}
+use Rattle.file_store.proofs.Burying.{set-buries}
 use Rattle.file_store.proofs.store.FileStore.lay.Goals as goal
+use Rattle.file_store.proofs.store.FileStore.lay.Goals.{then-has_room-via-then-has_room, then-has_room-via-else-has_room+then-is_some}
 
-pub set-requires : goal.set-requires
-set-requires c = elim c.in-Buried.is [
-  | inl e ↦ can_set-buried c.args.self.now c.args.file (sym c.would_bury.ensures ∙ e)
-  | inr e ↦ let laid = sym c.would_bury.ensures ∙ e in can_set-laid c.args.self.now c.args.file laid (c.requires laid)
-]
-
-pub returns-in-Already-clause-files : goal.returns-in-Already-clause-files
-returns-in-Already-clause-files c = elim c.in-Already.is [
-  | inl e ↦ rw (← c.self.view_is) (buried-already c.self.inside.row.files c.args.file c.self.invariant (rw (← c.self.view_is) at (sym c.would_bury.ensures ∙ e)))
-  | inr e ↦ buried-full c.args.self.now.files c.args.file (sym c.would_bury.ensures ∙ e)
-]
+pub returns-then-has_room-clause-after : goal.returns-then-has_room-clause-after
+returns-then-has_room-clause-after c =
+    let may : (has_entry c.args.self.now.files c.args.file || has_room c.args.self.now.files) ≡ true =
+    elim c.then-has_room.branch [
+      | then-has_room-via-then-has_room w ↦ grind (arith, nat_tests)
+      | then-has_room-via-else-has_room+then-is_some w ↦ grind
+          (arith, nat_tests)
+    ] in
+    c.set.ensures.files ∙ set-buries c.args.self.now.files c.args.file c.entries-has_room.ensures.rising may

@@ -5,9 +5,9 @@ use Rattle.file_store.proofs.store.FileStore.place.Given as goal
 
 abbrev pub invariant-loop-low : goal.invariant-loop-low
 invariant-loop-low l = record {
-  from : l.low ≤ place_of l.self-inside.row.files l.file;
-  to : place_of l.self-inside.row.files l.file ≤ l.high;
-  inside : l.high ≤ length l.self-inside.row.files;
+  from : l.low ≤ place_of l.self-inside.arena.files l.file;
+  to : place_of l.self-inside.arena.files l.file ≤ l.high;
+  inside : l.high ≤ length l.self-inside.arena.files;
 }
 
 abbrev pub decreases-loop-low : goal.decreases-loop-low

@@ -11,7 +11,8 @@ use Rattle.file_store.proofs.store.FileStore.put.Goals as goal
 -- where something stands nothing changes
 beside-kept : (slot : Slot) (bytes : List ℕ) (files : List Held) (file : List ℕ) → files ≡ after_put (put_at (Some slot) bytes true) files file bytes
 beside-kept None bytes files file = refl
-beside-kept (Some held) bytes files file = if_both (λ (r : Put). files ≡ after_put r files file bytes) (same_bytes held bytes) Same Differs (λ _. refl) (λ _. refl)
+beside-kept (Some held) bytes files file = if_both (λ (r : Put). files ≡ after_put r files file bytes) (same_bytes held bytes) Same Differs (λ _. refl)
+    (λ _. refl)
 
 pub returns-in-Ok-clause-files : goal.returns-in-Ok-clause-files
 returns-in-Ok-clause-files c =

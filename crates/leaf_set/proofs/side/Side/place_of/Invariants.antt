@@ -1,6 +1,6 @@
 use Rattle.std.proofs.Common.{◌<◌, ◌≤◌, ℕ, get_or}
-use Rattle.leaf_set.specs.Way.{far}
+use Rattle.ring_math.specs.Direction.{far}
 use Rattle.leaf_set.proofs.side.Side.place_of.Given as goal
 
 abbrev pub invariant-loop-place : goal.invariant-loop-place
-invariant-loop-place l = (k : ℕ) → k < l.place → far l.me l.way (get_or l.ids k 0) ≤ l.from_me
+invariant-loop-place l = (k : ℕ) → k < l.place → far l.me l.direction (get_or l.ids k 0) ≤ l.from_me

@@ -21,8 +21,8 @@ returns-then-is_new c = λ known h.
 pub returns-else-is_new : goal.returns-else-is_new
 returns-else-is_new c = λ known h.
     let s : State = seen c.args.node.now known in
-    handover-at (λ (o : Outcome). Plans s c.quietly.result o) s c.args.file.now c.args.bytes.now c.would_put-put.result
+    handover-at (λ (o : Outcome). Plans s c.quiet.result o) s c.args.file.now c.args.bytes.now c.would_put-put.result
     c.would_put-put.ensures
-    (subst (λ (o : Outcome). Plans s c.quietly.result o)
+    (subst (λ (o : Outcome). Plans s c.quiet.result o)
     (handed-other s c.args.file.now c.args.bytes.now c.would_put-put.result c.if-is_new.ensures.other)
-    (c.quietly.ensures s s (c.nothing.ensures s)))
+    (c.quiet.ensures s s (c.nothing.ensures s)))

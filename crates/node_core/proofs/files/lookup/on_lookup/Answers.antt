@@ -1,38 +1,42 @@
 use Rattle.std.proofs.Common.{[], ◌∷◌, IfOk, subst}
 use Rattle.wire_msg.specs.Words.{Lookup}
+use Rattle.overlay_rules.specs.declared.request.Asked.TheVariants as asked
 use Rattle.overlay_rules.specs.declared.request.Way.TheVariants as way
 use Rattle.overlay_rules.specs.State.{State}
 use Rattle.overlay_rules.specs.Outcome.{Outcome, becomes, sent}
+use Rattle.node_parts.specs.declared.node.Node.{Node}
 use Rattle.node_parts.specs.Change.{waited}
 use Rattle.node_parts.specs.Seen.{seen}
 use Rattle.node_parts.specs.Plans.{Plans}
-use Rattle.node_core.proofs.Routing.{lookup-at}
+use Rattle.node_core.specs.declared.request.Request.{Request}
+use Rattle.node_core.specs.Served.{IsServed}
+use Rattle.node_core.proofs.Routing.{lookup-at, lookup-refused}
 use Rattle.node_core.proofs.files.lookup.on_lookup.Goals as goal
-
-pub returns-in-NotReady : goal.returns-in-NotReady
-returns-in-NotReady c = λ known h.
-    let s : State = seen c.args.node.now known in
-    lookup-at (λ (o : Outcome). IfOk c.not_ready.result (λ p. Plans s p o)) (waited c.args.wait s) c.args.origin c.args.number c.args.key c.args.hops (way.NotReady)
-    (c.in-NotReady.ensures known c.args.wait h)
-    (c.not_ready.ensures s _ (c.waits-change.ensures s))
 
 pub returns-in-Here : goal.returns-in-Here
 returns-in-Here c = λ known h.
-    let s : State = seen c.args.node.now known in
-    lookup-at (λ (o : Outcome). IfOk c.delivered.result (λ p. Plans s p o)) (waited c.args.wait s) c.args.origin c.args.number c.args.key c.args.hops (way.Here)
-    (c.in-Here.ensures known c.args.wait h)
-    (c.delivered.ensures s _ (c.waits-change.ensures s))
+    let n : Node = c.args.node.now in
+    let r : Request = c.args.request.now in
+    let s : State = seen n known in
+    lookup-at (λ (o : Outcome). IfOk c.delivered.result (λ p. Plans s p o)) (waited r.wait s) r.origin r.number c.args.key c.args.hops way.Here
+    (subst (IsServed n r asked.Lookup c.args.key) c.in-Here.is c.in_ok-served.ensures known h)
+    (c.delivered.ensures s)
 
-pub returns-in-Gap : goal.returns-in-Gap
-returns-in-Gap c = λ known h.
-    let s : State = seen c.args.node.now known in
-    lookup-at (λ (o : Outcome). IfOk c.busy.result (λ p. Plans s p o)) (waited c.args.wait s) c.args.origin c.args.number c.args.key c.args.hops (way.Gap c.in-Gap.joiner)
-    (c.in-Gap.ensures known c.args.wait h)
-    (c.busy.ensures s _ (c.waits-change.ensures s))
+pub returns-in-On : goal.returns-in-On
+returns-in-On c = λ known h.
+    let n : Node = c.args.node.now in
+    let r : Request = c.args.request.now in
+    let s : State = seen n known in
+    lookup-at (λ (o : Outcome). IfOk c.passed_on.result (λ p. Plans s p o)) (waited r.wait s) r.origin r.number c.args.key c.args.hops (way.To c.in-On.next)
+    (subst (IsServed n r asked.Lookup c.args.key) c.in-On.is c.in_ok-served.ensures known h)
+    (subst (λ m. IfOk c.passed_on.result (λ p. Plans s p (becomes (waited r.wait s) (sent c.in-On.next (Lookup r.origin r.number c.args.key m) ∷ []) [])))
+    c.one_more.ensures
+    (c.passed_on.ensures s))
 
-pub returns-in-To : goal.returns-in-To
-returns-in-To c = λ known h.
-    let s : State = seen c.args.node.now known in
-    lookup-at (λ (o : Outcome). IfOk c.sending.result (λ p. Plans s p o)) (waited c.args.wait s) c.args.origin c.args.number c.args.key c.args.hops (way.To c.in-To.next)
-    (c.in-To.ensures known c.args.wait h)
-    (subst (λ m. IfOk c.sending.result (λ p. Plans s p (becomes (waited c.args.wait s) (sent c.in-To.next (Lookup c.args.origin c.args.number c.args.key m) ∷ []) []))) c.one_more.ensures (c.sending.ensures s _ (c.waits-change.ensures s)))
+pub returns-in-Refused : goal.returns-in-Refused
+returns-in-Refused c = λ known h.
+    let n : Node = c.args.node.now in
+    let r : Request = c.args.request.now in
+    let s : State = seen n known in
+    lookup-refused (λ (o : Outcome). Plans s c.in-Refused.prepared o) (waited r.wait s) r.origin r.number c.args.key c.args.hops
+    (subst (IsServed n r asked.Lookup c.args.key) c.in-Refused.is c.in_ok-served.ensures known h)

@@ -9,12 +9,14 @@ use Rattle.node_core.proofs.files.replicas.on_replica_ack.Goals as goal
 pub returns-in-Unknown : goal.returns-in-Unknown
 returns-in-Unknown c = λ known h.
     let s : State = seen c.args.node.now known in
-    subst (λ (o : Outcome). Plans s c.quietly.result o) (sym (c.in_ok-ack.ensures.row s ∙ ap (acked s c.args.origin c.args.number) c.in-Unknown.is)) (c.quietly.ensures s s (c.nothing.ensures s))
+    subst (λ (o : Outcome). Plans s c.quiet.result o) (sym (c.in_ok-ack.ensures.row s ∙ ap (acked s c.args.origin c.args.number) c.in-Unknown.is))
+    (c.quiet.ensures s s (c.nothing.ensures s))
 
 pub returns-in_ok-change-in-Heard : goal.returns-in_ok-change-in-Heard
 returns-in_ok-change-in-Heard c = λ known h.
     let s : State = seen c.args.node.now known in
-    subst (λ (o : Outcome). Plans s c.quietly-in-Heard.result o) (sym (c.in_ok-ack.ensures.row s ∙ ap (acked s c.args.origin c.args.number) c.in-Heard.is)) (c.quietly-in-Heard.ensures s _ (c.in_ok-change-in-Heard.ensures s))
+    subst (λ (o : Outcome). Plans s c.quiet-in-Heard.result o) (sym (c.in_ok-ack.ensures.row s ∙ ap (acked s c.args.origin c.args.number) c.in-Heard.is))
+    (c.quiet-in-Heard.ensures s _ (c.in_ok-change-in-Heard.ensures s))
 
 pub stored-requires : goal.stored-requires
 stored-requires c = subst (IsWithin (length c.args.node.now.past.asks)) c.in-Last.is c.in_ok-ack.ensures.within

@@ -1,6 +1,8 @@
-use Rattle.std.proofs.Common.{◌≡◌, ◌<◌, ◌≤◌, ◌∷◌, ℕ, List, Option, Some, Contains, IfOk, MatchOption, length, get_or, slice_get, sym, ap, ◌∙◌, subst, arith}
+use Rattle.std.proofs.Common.{◌≡◌, ◌≤◌, ◌∷◌, ℕ, List, Option, Some, Contains, IfOk, MatchOption, length, get_or, slice_get, sym, ap, ◌∙◌, subst, arith}
 use Rattle.std.proofs.lemmas.List.Elements.{Contains-get_or}
 use Rattle.std.proofs.lemmas.Option.{slice_get-get_or}
+use Rattle.ring_math.specs.declared.limits.TheConstants.{MOST_MEMBERS}
+use Rattle.wire_msg.specs.declared.limits.TheConstants.{MOST_TARGETS}
 use Rattle.overlay_rules.specs.declared.request.Asked.TheVariants as asked
 use Rattle.wire_msg.specs.declared.reply.Reply.TheVariants as reply
 use Rattle.overlay_rules.specs.declared.request.Pending.{Pending}
@@ -21,7 +23,8 @@ returns-in_ok-change-in-Some c = λ known h.
     let read : ask ≡ get_or asks place ask = rw c.as_slice.ensures at c.index-as_slice-place.is in
     let found : slice_get asks place ≡ Some ask = slice_get-get_or asks place ask c.requires ∙ ap (λ (p : Pending). Some p) (sym read) in
     let held : c.in-Some.all ≡ s.me ∷ (get_or c.as_slice.result.now place ask).targets = subst (λ (x : Option (List ℕ)).
-    MatchOption x (16 < length (get_or c.as_slice.result.now place ask).targets) (λ all. all ≡ s.me ∷ (get_or c.as_slice.result.now place ask).targets)) c.in-Some.is c.in_ok-holders.ensures in
+    MatchOption x (MOST_MEMBERS ≤ length (get_or c.as_slice.result.now place ask).targets)
+    (λ all. all ≡ s.me ∷ (get_or c.as_slice.result.now place ask).targets)) c.in-Some.is c.in_ok-holders.ensures in
     let all : c.in-Some.all ≡ s.me ∷ ask.targets = held ∙ ap (λ (p : Pending). s.me ∷ p.targets) (sym c.index-as_slice-place.is) in
     let t : State = record s { pending = taken_out asks place } in
     subst (λ (x : Option Pending). IfOk c.replied.result (λ p. Plans s p (stored_at s c.args.origin c.args.number place x))) (sym found)
@@ -35,8 +38,9 @@ returns-in-None c = λ known h.
     let place : ℕ = c.args.place in
     let ask : Pending = c.index-as_slice-place.result in
     let read : ask ≡ get_or asks place ask = rw c.as_slice.ensures at c.index-as_slice-place.is in
-    let held : 16 < length (get_or c.as_slice.result.now place ask).targets = subst (λ (x : Option (List ℕ)).
-    MatchOption x (16 < length (get_or c.as_slice.result.now place ask).targets) (λ all. all ≡ c.args.node.now.me ∷ (get_or c.as_slice.result.now place ask).targets)) c.in-None.is c.in_ok-holders.ensures in
-    let many : 16 < length ask.targets = subst (λ (p : Pending). 16 < length p.targets) (sym c.index-as_slice-place.is) held in
-    let few : length ask.targets ≤ 8 = h.sound.pending ask (subst (Contains asks) (sym read) (Contains-get_or asks place ask c.requires)) in
+    let held : MOST_MEMBERS ≤ length (get_or c.as_slice.result.now place ask).targets = subst (λ (x : Option (List ℕ)).
+    MatchOption x (MOST_MEMBERS ≤ length (get_or c.as_slice.result.now place ask).targets)
+    (λ all. all ≡ c.args.node.now.me ∷ (get_or c.as_slice.result.now place ask).targets)) c.in-None.is c.in_ok-holders.ensures in
+    let many : MOST_MEMBERS ≤ length ask.targets = subst (λ (p : Pending). MOST_MEMBERS ≤ length p.targets) (sym c.index-as_slice-place.is) held in
+    let few : length ask.targets ≤ MOST_TARGETS = h.sound.pending ask (subst (Contains asks) (sym read) (Contains-get_or asks place ask c.requires)) in
     absurd (omega (arith, many, few))

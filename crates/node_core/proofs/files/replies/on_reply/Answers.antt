@@ -17,8 +17,10 @@ returns-in_ok-copy c = λ known h.
     let waits : is_in c.args.node.now.waiting.items c.args.number ≡ true =
     ap (λ (xs : List ℕ). is_in xs c.args.number) (sym c.deref.ensures.value) ∙ sym c.is_waiting.ensures ∙ c.if-is_waiting.true in
     reply-waits (λ (o : Outcome). IfOk c.closing.result (λ p. Plans s p o)) s c.args.number c.args.reply.now waits
-    (subst (λ (ms : List Sent). IfOk c.closing.result (λ p. Plans s p (becomes t ms (note.Closed c.args.number (answer.Reply c.args.reply.now) ∷ [])))) c.new.ensures
-    (subst (λ (r : Reply). IfOk c.closing.result (λ p. Plans s p (becomes t c.new.result (note.Closed c.args.number (answer.Reply r) ∷ [])))) c.in_ok-copy.ensures
+    (subst (λ (ms : List Sent). IfOk c.closing.result (λ p. Plans s p (becomes t ms (note.Closed c.args.number (answer.Reply c.args.reply.now) ∷ []))))
+    c.new.ensures
+    (subst (λ (r : Reply). IfOk c.closing.result (λ p. Plans s p (becomes t c.new.result (note.Closed c.args.number (answer.Reply r) ∷ []))))
+    c.in_ok-copy.ensures
     (c.closing.ensures s t (c.waits.ensures s))))
 
 pub returns-else-is_waiting : goal.returns-else-is_waiting
@@ -26,4 +28,4 @@ returns-else-is_waiting c = λ known h.
     let s : State = seen c.args.node.now known in
     let late : is_in c.args.node.now.waiting.items c.args.number ≡ false =
     ap (λ (xs : List ℕ). is_in xs c.args.number) (sym c.deref.ensures.value) ∙ sym c.is_waiting.ensures ∙ c.if-is_waiting.false in
-    reply-late (λ (o : Outcome). Plans s c.quietly.result o) s c.args.number c.args.reply.now late (c.quietly.ensures s s (c.nothing.ensures s))
+    reply-late (λ (o : Outcome). Plans s c.quiet.result o) s c.args.number c.args.reply.now late (c.quiet.ensures s s (c.nothing.ensures s))

@@ -15,5 +15,7 @@ returns c = λ known old e.
     record {
       state = c.in_ok-change.ensures s ∙ ap (λ (j : Joiner). record s { phase = phase_to j s.phase }) e;
       messages = c.in_ok-messages.ensures;
-      notes = c.in_ok-push-2.ensures.ok ∙ ap (λ (ns : List Note). ns ++ note.Closed c.args.number answer.GaveUp ∷ []) (c.in_ok-push.ensures.ok ∙ ap (λ (ns : List Note). ns ++ note.Closed c.args.halted.now.number (answer.Stopped s.me own.GivenUp) ∷ []) c.new-notes.ensures);
+      notes = c.in_ok-push-2.ensures.ok ∙ ap (λ (ns : List Note). ns ++ note.Closed c.args.number answer.GaveUp ∷ [])
+          (c.in_ok-push.ensures.ok ∙ ap (λ (ns : List Note). ns ++ note.Closed c.args.halted.now.number (answer.Stopped s.me own.GivenUp) ∷ [])
+          c.new-notes.ensures);
     }

@@ -1,5 +1,5 @@
-use Rattle.std.proofs.Common.{Bool, Some, None, sym, ap, ◌∙◌, subst}
-use Rattle.overlay_rules.specs.State.{State}
+use Rattle.std.proofs.Common.{ℕ, List, Bool, Some, None, sym, ap, ◌∙◌, subst}
+use Rattle.overlay_rules.specs.State.{State, Leasing}
 use Rattle.overlay_rules.specs.Outcome.{Outcome, nothing}
 use Rattle.node_parts.specs.Seen.{seen}
 use Rattle.node_parts.specs.Plans.{Plans}
@@ -19,22 +19,26 @@ returns-then-not-is_new c = λ known h.
     let s : State = seen c.args.node.now known in
     let join : Finished = c.args.join.now in
     let lists : Lists = c.args.lists.now in
-    subst (λ (o : Outcome). Plans s c.quietly.result o)
-    (sym (ap (λ (b : Bool). if b then ready_test (with_grant s c.args.from lists join.attempt join.number join.left join.right (left_lists s.phase) (right_lists s.phase)) else nothing s)
+    subst (λ (o : Outcome). Plans s c.quiet.result o)
+    (sym (ap (λ (b : Bool). if b then ready_test
+    (with_grant s c.args.from lists (Leasing join.attempt join.number join.left join.right (left_lists s.phase) (right_lists s.phase))) else nothing s)
     (sym c.is_new.ensures ∙ c.if-not-is_new.true)))
-    (c.quietly.ensures s s (c.nothing.ensures s))
+    (c.quiet.ensures s s (c.nothing.ensures s))
 
 pub returns : goal.returns
 returns c = λ known h.
     let s : State = seen c.args.node.now known in
     let join : Finished = c.args.join.now in
     let lists : Lists = c.args.lists.now in
-    let t : State = with_grant s c.args.from lists join.attempt join.number join.left join.right (left_lists s.phase) (right_lists s.phase) in
-    subst (λ (o : Outcome). Plans s c.quietly-2.result o)
+    let t : State = with_grant s c.args.from lists (Leasing join.attempt join.number join.left join.right (left_lists s.phase) (right_lists s.phase)) in
+    subst (λ (o : Outcome). Plans s c.quiet-2.result o)
     (sym (ap (λ (b : Bool). if b then ready_test t else nothing s) (sym c.is_new.ensures ∙ c.if-not-is_new.false)
     ∙ ready-by t join.attempt join.number join.left join.right _ _
-    ∙ ap (λ (b : Bool). if b then readied t join.attempt join.number join.left join.right else nothing t) (sym c.is_complete_buried.ensures ∙ c.if-is_complete_buried.false)))
-    (c.quietly-2.ensures s t
+    ∙ ap (λ (b : Bool). if b then readied t join.attempt join.number join.left join.right else nothing t)
+    (sym c.is_complete_buried.ensures ∙ c.if-is_complete_buried.false)))
+    (c.quiet-2.ensures s t
     (c.in_ok-change.ensures s
-    ∙ keeping-state s c.args.from lists join (left_lists s.phase) (right_lists s.phase) c.in_ok-left.left c.in_ok-right.right _ c.requires (c.in_ok-left.ensures ∙ ap (λ (b : Bool). if b then Some lists else None) c.eq.ensures) (c.in_ok-right.ensures ∙ ap (λ (b : Bool). if b then Some lists else None) c.eq-2.ensures)
-    (ap (λ (x : Roomy). buried_all s.files x.files) c.in_ok-copy.ensures ∙ ap (λ (x : Lists). buried_all s.files x.tombs) c.lists.view_is)))
+    ∙ keeping-state s c.args.from lists join (left_lists s.phase) (right_lists s.phase) c.in_ok-left.left c.in_ok-right.right c.of.result _ c.requires
+    (c.in_ok-left.ensures ∙ ap (λ (b : Bool). if b then Some lists else None) c.eq.ensures)
+    (c.in_ok-right.ensures ∙ ap (λ (b : Bool). if b then Some lists else None) c.eq-2.ensures) c.of.ensures
+    (ap (λ (x : Roomy). buried_all s.files x.files) c.in_ok-copy.ensures ∙ ap (λ (fs : List (List ℕ)). buried_all s.files fs) c.tombs.ensures)))

@@ -1,5 +1,5 @@
 use Rattle.std.proofs.Common.{ℕ, ◌++◌, ◌∷◌, [], List, IfOk, ap, ◌∙◌, subst}
-use Rattle.overlay_rules.specs.State.{State, Phase}
+use Rattle.overlay_rules.specs.State.{State}
 use Rattle.overlay_rules.specs.State as phase
 use Rattle.overlay_rules.specs.Outcome.{Sent, becomes}
 use Rattle.node_parts.specs.Seen.{seen}

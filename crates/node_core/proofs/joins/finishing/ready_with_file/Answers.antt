@@ -17,8 +17,10 @@ returns-then-not-is_complete_with c = λ known h.
     let s : State = seen c.args.node.now known in
     let t : State = holding s c.args.file.now c.args.bytes.now in
     let files : set_in s.files c.args.file.now (Some c.in_ok-copy.field-0) ≡ t.files =
-    set-room s.files c.args.file.now (Some c.in_ok-copy.field-0) c.requires ∙ ap (λ (b : List ℕ). with_slot s.files c.args.file.now (Some b)) c.in_ok-copy.ensures in
-    let state : ◌≡◌ {A = State} (record s { files = set_in s.files c.args.file.now (Some c.in_ok-copy.field-0) }) t = ap (λ (fs : List Held). record s { files = fs }) files in
+    set-room s.files c.args.file.now (Some c.in_ok-copy.field-0) c.requires
+    ∙ ap (λ (b : List ℕ). with_slot s.files c.args.file.now (Some b)) c.in_ok-copy.ensures in
+    let state : ◌≡◌ {A = State} (record s { files = set_in s.files c.args.file.now (Some c.in_ok-copy.field-0) }) t =
+    ap (λ (fs : List Held). record s { files = fs }) files in
     subst (λ (o : Outcome). IfOk c.keeping_file.result (λ p. Plans s p o))
     (ap (λ (u : State). nothing u) state ∙ ready-incomplete t (sym (c.is_complete_with.ensures c.args.bytes.now) ∙ c.if-not-is_complete_with.true))
     (c.keeping_file.ensures s)
@@ -28,8 +30,10 @@ returns-in-Leasing c = λ known h.
     let s : State = seen c.args.node.now known in
     let t : State = holding s c.args.file.now c.args.bytes.now in
     let files : set_in s.files c.args.file.now (Some c.in_ok-copy.field-0) ≡ t.files =
-    set-room s.files c.args.file.now (Some c.in_ok-copy.field-0) c.requires ∙ ap (λ (b : List ℕ). with_slot s.files c.args.file.now (Some b)) c.in_ok-copy.ensures in
-    let state : ◌≡◌ {A = State} (record s { files = set_in s.files c.args.file.now (Some c.in_ok-copy.field-0) }) t = ap (λ (fs : List Held). record s { files = fs }) files in
+    set-room s.files c.args.file.now (Some c.in_ok-copy.field-0) c.requires
+    ∙ ap (λ (b : List ℕ). with_slot s.files c.args.file.now (Some b)) c.in_ok-copy.ensures in
+    let state : ◌≡◌ {A = State} (record s { files = set_in s.files c.args.file.now (Some c.in_ok-copy.field-0) }) t =
+    ap (λ (fs : List Held). record s { files = fs }) files in
     subst (λ (o : Outcome). IfOk c.readied.result (λ p. Plans s p o))
     (ap (λ (u : State). readied u c.get.result c.in-Leasing.number c.in-Leasing.left c.in-Leasing.right) state
     ∙ ap (λ a. readied t a c.in-Leasing.number c.in-Leasing.left c.in-Leasing.right) c.get.ensures.value
@@ -42,8 +46,10 @@ returns-in_default c = λ known h.
     let s : State = seen c.args.node.now known in
     let t : State = holding s c.args.file.now c.args.bytes.now in
     let files : set_in s.files c.args.file.now (Some c.in_ok-copy.field-0) ≡ t.files =
-    set-room s.files c.args.file.now (Some c.in_ok-copy.field-0) c.requires ∙ ap (λ (b : List ℕ). with_slot s.files c.args.file.now (Some b)) c.in_ok-copy.ensures in
-    let state : ◌≡◌ {A = State} (record s { files = set_in s.files c.args.file.now (Some c.in_ok-copy.field-0) }) t = ap (λ (fs : List Held). record s { files = fs }) files in
+    set-room s.files c.args.file.now (Some c.in_ok-copy.field-0) c.requires
+    ∙ ap (λ (b : List ℕ). with_slot s.files c.args.file.now (Some b)) c.in_ok-copy.ensures in
+    let state : ◌≡◌ {A = State} (record s { files = set_in s.files c.args.file.now (Some c.in_ok-copy.field-0) }) t =
+    ap (λ (fs : List Held). record s { files = fs }) files in
     subst (λ (o : Outcome). IfOk c.keeping_file-in_default.result (λ p. Plans s p o))
     (ap (λ (u : State). nothing u) state ∙ ready-other t (λ a n l r x y e. c.in_default.not-Leasing a n l r x y (c.joiner.ensures ∙ e)))
     (c.keeping_file-in_default.ensures s)

@@ -12,5 +12,6 @@ returns c = λ known.
     let s : State = seen c.args.node.now known in
     subst (λ (t : State). IfOk c.gates.result (λ change. changed change s ≡ t))
     (ap (λ (g : Option Lease). record s { left_gate = g; right_gate = gate_after c.without_older-2.result s.right_gate }) c.without_older.ensures
-    ∙ ap (λ (g : Option Lease). record s { left_gate = unless_lease (is_older c.args.joiner c.args.attempt) s.left_gate; right_gate = g }) c.without_older-2.ensures)
+    ∙ ap (λ (g : Option Lease). record s { left_gate = unless_lease (is_older c.args.joiner c.args.attempt) s.left_gate; right_gate = g })
+    c.without_older-2.ensures)
     (c.gates.ensures s)

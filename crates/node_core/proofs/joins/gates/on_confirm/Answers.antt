@@ -1,5 +1,5 @@
 use Rattle.std.proofs.Common.{[], sym, ap, ◌∙◌, subst}
-use Rattle.overlay_rules.specs.State.{State, Phase}
+use Rattle.overlay_rules.specs.State.{State}
 use Rattle.overlay_rules.specs.State as phase
 use Rattle.overlay_rules.specs.Outcome.{Outcome}
 use Rattle.node_parts.specs.Seen.{seen}
@@ -21,5 +21,5 @@ confirmed-requires-clause-links c =
 pub returns-in-None : goal.returns-in-None
 returns-in-None c = λ known.
     let s : State = seen c.args.node.now known in
-    subst (λ (o : Outcome). Plans s c.quietly.result o) (confirm-unready s c.args.from c.args.attempt c.in-None.ensures)
-    (c.quietly.ensures s s (c.nothing.ensures s))
+    subst (λ (o : Outcome). Plans s c.quiet.result o) (confirm-unready s c.args.from c.args.attempt c.in-None.ensures)
+    (c.quiet.ensures s s (c.nothing.ensures s))

@@ -6,4 +6,4 @@ use Rattle.node_core.proofs.joins.leasing.denied.Goals as goal
 pub returns : goal.returns
 returns c = λ known.
     let s : State = seen c.args.node.now known in
-    c.sending.ensures s (cleared s c.args.request.now.joiner c.args.request.now.attempt) (c.in_ok-change.ensures known)
+    c.sending.ensures s (cleared s c.args.gate.now.joiner c.args.gate.now.attempt) (c.in_ok-change.ensures known)

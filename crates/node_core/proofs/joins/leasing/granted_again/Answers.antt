@@ -10,6 +10,6 @@ returns c = λ known.
     let s : State = seen c.args.node.now known in
     record {
       state = c.nothing.ensures s;
-      messages = c.in_ok-messages.ensures ∙ ap (λ (l : Lists). granted c.args.request.now.joiner c.args.request.now.attempt l s.files) c.in_ok-lists.ensures;
+      messages = c.in_ok-messages.ensures ∙ ap (λ (l : Lists). granted c.args.gate.now.joiner c.args.gate.now.attempt l s.files) c.in_ok-lists.ensures;
       notes = c.new.ensures;
     }

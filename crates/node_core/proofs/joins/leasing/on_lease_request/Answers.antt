@@ -16,15 +16,15 @@ weighed-requires c =
 pub returns-in-Some : goal.returns-in-Some
 returns-in-Some c = λ known.
     let s : State = seen c.args.node.now known in
-    let g : Gate = c.args.request.now in
+    let g : Gate = c.args.gate.now in
     subst (λ (o : Outcome). IfOk c.weighed.result (λ p. Plans s p o))
-    (ap (λ (k : Links). lease_by s k.left k.right g.joiner g.attempt g.left g.right (verdict k s.me g.joiner g.attempt g.left g.right)) (c.links_of.ensures known)
-    ∙ lease-ready s g.joiner g.attempt g.left g.right c.in-Some.links.0 c.in-Some.links.1 c.in-Some.ensures)
+    (ap (λ (k : Links). lease_by s k.left k.right g (verdict k s.me g)) (c.links_of.ensures known)
+    ∙ lease-ready s g c.in-Some.links.0 c.in-Some.links.1 c.in-Some.ensures)
     (c.weighed.ensures known)
 
 pub returns-in-None : goal.returns-in-None
 returns-in-None c = λ known.
     let s : State = seen c.args.node.now known in
-    let g : Gate = c.args.request.now in
-    subst (λ (o : Outcome). IfOk c.sending.result (λ p. Plans s p o)) (lease-unready s g.joiner g.attempt g.left g.right c.in-None.ensures)
+    let g : Gate = c.args.gate.now in
+    subst (λ (o : Outcome). IfOk c.sending.result (λ p. Plans s p o)) (lease-unready s g c.in-None.ensures)
     (c.sending.ensures s s (c.nothing.ensures s))

@@ -10,9 +10,9 @@ use Rattle.node_core.proofs.joins.probing.on_probe.Goals as goal
 pub returns-then-not-is_ready : goal.returns-then-not-is_ready
 returns-then-not-is_ready c = λ known h.
     let s : State = seen c.args.node.now known in
-    subst (λ (o : Outcome). Plans s c.quietly.result o)
+    subst (λ (o : Outcome). Plans s c.quiet.result o)
     (probe-unready s c.args.from c.args.attempt s.phase (sym c.is_ready.ensures ∙ c.if-not-is_ready.true))
-    (c.quietly.ensures s s (c.nothing.ensures s))
+    (c.quiet.ensures s s (c.nothing.ensures s))
 
 pub returns : goal.returns
 returns c = λ known h.

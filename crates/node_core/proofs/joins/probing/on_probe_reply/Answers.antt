@@ -9,6 +9,6 @@ use Rattle.node_core.proofs.joins.probing.on_probe_reply.Goals as goal
 pub returns-then-not-awaits : goal.returns-then-not-awaits
 returns-then-not-awaits c = λ known h.
     let s : State = seen c.args.node.now known in
-    subst (λ (o : Outcome). Plans s c.quietly.result o)
+    subst (λ (o : Outcome). Plans s c.quiet.result o)
     (not-awaited s c.args.from c.args.attempt c.args.members.now c.joiner.result.now c.joiner.ensures (sym c.awaits.ensures ∙ c.if-not-awaits.true))
-    (c.quietly.ensures s s (c.nothing.ensures s))
+    (c.quiet.ensures s s (c.nothing.ensures s))

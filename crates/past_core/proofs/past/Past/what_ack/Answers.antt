@@ -9,7 +9,8 @@ returns-then-is_empty-clause-row c = λ s.
     let ask : Pending = c.index-as_slice-place.result in
     let read : ask ≡ get_or c.args.self.now.asks c.in-Some.place ask = rw c.as_slice.ensures at c.index-as_slice-place.is in
     let at = is_at c.args.self.now.asks c.args.sender c.args.origin c.args.number c.args.file.now c.in-Some.place ask c.in-Some.ensures read in
-    let left : c.in_ok-awaited.awaited ≡ filter (λ y. not (y == c.args.sender)) (get_or c.as_slice.result.now c.in-Some.place ask).awaited = c.in_ok-awaited.ensures in
+    let left : c.in_ok-awaited.awaited ≡ filter (λ y. not (y == c.args.sender)) (get_or c.as_slice.result.now c.in-Some.place ask).awaited =
+    c.in_ok-awaited.ensures in
     let rest : c.in_ok-awaited.awaited ≡ filter (λ y. not (y == c.args.sender)) ask.awaited =
     left ∙ ap (λ (p : Pending). filter (λ y. not (y == c.args.sender)) p.awaited) (sym c.index-as_slice-place.is) in
     let none : length c.as_slice-2.result.now ≡ 0 = grind (arith, nat_tests, c.is_empty.ensures, c.if-is_empty.true) in
@@ -21,7 +22,8 @@ returns-else-is_empty-clause-row c = λ s.
     let ask : Pending = c.index-as_slice-place.result in
     let read : ask ≡ get_or c.args.self.now.asks c.in-Some.place ask = rw c.as_slice.ensures at c.index-as_slice-place.is in
     let at = is_at c.args.self.now.asks c.args.sender c.args.origin c.args.number c.args.file.now c.in-Some.place ask c.in-Some.ensures read in
-    let left : c.in_ok-awaited.awaited ≡ filter (λ y. not (y == c.args.sender)) (get_or c.as_slice.result.now c.in-Some.place ask).awaited = c.in_ok-awaited.ensures in
+    let left : c.in_ok-awaited.awaited ≡ filter (λ y. not (y == c.args.sender)) (get_or c.as_slice.result.now c.in-Some.place ask).awaited =
+    c.in_ok-awaited.ensures in
     let rest : c.in_ok-awaited.awaited ≡ filter (λ y. not (y == c.args.sender)) ask.awaited =
     left ∙ ap (λ (p : Pending). filter (λ y. not (y == c.args.sender)) p.awaited) (sym c.index-as_slice-place.is) in
     let some : 0 < length c.as_slice-2.result.now = grind (arith, nat_tests, c.is_empty.ensures, c.if-is_empty.false) in

@@ -11,7 +11,8 @@ use Rattle.play_engine.proofs.player.Player.advance.Goals as goal
 pub make-requires : goal.make-requires
 make-requires c = record {
   can = subst (λ (xs : List Action). CanCome xs c.args.self.now c.next-turn.result) (sym c.actions-actions.ensures.value)
-      (can_come c.args.scenario.now c.args.self.now c.next-turn.new.cursor c.next-turn.result c.actions-actions.ensures.rules c.requires.plays c.next-turn.ensures);
+      (can_come c.args.scenario.now c.args.self.now c.next-turn.new.cursor c.next-turn.result c.actions-actions.ensures.rules c.requires.plays
+      c.next-turn.ensures);
 }
 
 pub returns-in_err-make-clause-so_far : goal.returns-in_err-make-clause-so_far
@@ -20,17 +21,20 @@ returns-in_err-make-clause-so_far c =
     (begins c.args.scenario.now c.args.self.now c.requires.plays)
 
 pub returns-then-not-branch-clause-plays : goal.returns-then-not-branch-clause-plays
-returns-then-not-branch-clause-plays c = (stays c.args.scenario.now c.args.self.now c.make.new.self c.next-turn.new.cursor c.next-turn.result c.actions-actions.result.now
+returns-then-not-branch-clause-plays c =
+    (stays c.args.scenario.now c.args.self.now c.make.new.self c.next-turn.new.cursor c.next-turn.result c.actions-actions.result.now
     c.actions-actions.ensures.value c.requires.plays c.next-turn.ensures c.in_ok-make.ensures.made
     (sym c.in_ok-make.ensures.answer ∙ c.if-not-branch.true)).plays
 
 pub returns-then-not-branch-clause-so_far : goal.returns-then-not-branch-clause-so_far
-returns-then-not-branch-clause-so_far c = (stays c.args.scenario.now c.args.self.now c.make.new.self c.next-turn.new.cursor c.next-turn.result c.actions-actions.result.now
+returns-then-not-branch-clause-so_far c =
+    (stays c.args.scenario.now c.args.self.now c.make.new.self c.next-turn.new.cursor c.next-turn.result c.actions-actions.result.now
     c.actions-actions.ensures.value c.requires.plays c.next-turn.ensures c.in_ok-make.ensures.made
     (sym c.in_ok-make.ensures.answer ∙ c.if-not-branch.true)).so_far
 
 pub returns-then-not-branch-clause-turn : goal.returns-then-not-branch-clause-turn
-returns-then-not-branch-clause-turn c = (stays c.args.scenario.now c.args.self.now c.make.new.self c.next-turn.new.cursor c.next-turn.result c.actions-actions.result.now
+returns-then-not-branch-clause-turn c = (stays c.args.scenario.now c.args.self.now c.make.new.self c.next-turn.new.cursor c.next-turn.result
+    c.actions-actions.result.now
     c.actions-actions.ensures.value c.requires.plays c.next-turn.ensures c.in_ok-make.ensures.made
     (sym c.in_ok-make.ensures.answer ∙ c.if-not-branch.true)).same
 
@@ -43,21 +47,24 @@ returns-then-not-branch-clause-exactly c = (
 )
 
 pub returns-clause-plays : goal.returns-clause-plays
-returns-clause-plays c = (goes c.args.scenario.now c.args.self.now (record { recorded = c.self.inside.world; spot = c.self.inside.cursor; skipped = c.self.inside.skipped })
+returns-clause-plays c = (goes c.args.scenario.now c.args.self.now
+    (record { recorded = c.self.inside.world; spot = c.self.inside.cursor; skipped = c.self.inside.skipped })
     c.next-turn.new.cursor c.next-turn.result c.actions-actions.result.now
     c.actions-actions.ensures.rules c.actions-actions.ensures.value c.requires.plays c.next-turn.ensures
     (λ step is. c.self.view_is ∙ c.in_ok-make.ensures.made step is)
     (sym c.in_ok-make.ensures.answer ∙ c.if-not-branch.false)).plays
 
 pub returns-clause-so_far : goal.returns-clause-so_far
-returns-clause-so_far c = (goes c.args.scenario.now c.args.self.now (record { recorded = c.self.inside.world; spot = c.self.inside.cursor; skipped = c.self.inside.skipped })
+returns-clause-so_far c = (goes c.args.scenario.now c.args.self.now
+    (record { recorded = c.self.inside.world; spot = c.self.inside.cursor; skipped = c.self.inside.skipped })
     c.next-turn.new.cursor c.next-turn.result c.actions-actions.result.now
     c.actions-actions.ensures.rules c.actions-actions.ensures.value c.requires.plays c.next-turn.ensures
     (λ step is. c.self.view_is ∙ c.in_ok-make.ensures.made step is)
     (sym c.in_ok-make.ensures.answer ∙ c.if-not-branch.false)).so_far
 
 pub returns-clause-turn : goal.returns-clause-turn
-returns-clause-turn c = (goes c.args.scenario.now c.args.self.now (record { recorded = c.self.inside.world; spot = c.self.inside.cursor; skipped = c.self.inside.skipped })
+returns-clause-turn c = (goes c.args.scenario.now c.args.self.now
+    (record { recorded = c.self.inside.world; spot = c.self.inside.cursor; skipped = c.self.inside.skipped })
     c.next-turn.new.cursor c.next-turn.result c.actions-actions.result.now
     c.actions-actions.ensures.rules c.actions-actions.ensures.value c.requires.plays c.next-turn.ensures
     (λ step is. c.self.view_is ∙ c.in_ok-make.ensures.made step is)
@@ -66,7 +73,8 @@ returns-clause-turn c = (goes c.args.scenario.now c.args.self.now (record { reco
 pub returns-clause-exactly : goal.returns-clause-exactly
 returns-clause-exactly c = (
   λ none. cc,
-  λ all. absurd ((goes c.args.scenario.now c.args.self.now (record { recorded = c.self.inside.world; spot = c.self.inside.cursor; skipped = c.self.inside.skipped })
+  λ all. absurd ((goes c.args.scenario.now c.args.self.now
+      (record { recorded = c.self.inside.world; spot = c.self.inside.cursor; skipped = c.self.inside.skipped })
       c.next-turn.new.cursor c.next-turn.result c.actions-actions.result.now
       c.actions-actions.ensures.rules c.actions-actions.ensures.value c.requires.plays c.next-turn.ensures
       (λ step is. c.self.view_is ∙ c.in_ok-make.ensures.made step is)

@@ -17,6 +17,7 @@ returns c = λ states a.
     let l : c.args.place < length c.args.self.now = omega (arith, c.requires) in
     let is : c.index-node.result.now ≡ get_or c.args.self.now c.args.place c.index-node.result.now =
     c.index-node.ensures ∙ ap (λ (ns : List Node). get_or ns c.args.place c.index-node.result.now) c.self.view_is in
-    let me : c.index-node.result.now.me ≡ id_at c.args.self.now c.args.place = ap (λ (n : Node). n.me) is ∙ sym (id-read c.args.self.now c.args.place c.index-node.result.now l) in
+    let me : c.index-node.result.now.me ≡ id_at c.args.self.now c.args.place =
+    ap (λ (n : Node). n.me) is ∙ sym (id-read c.args.self.now c.args.place c.index-node.result.now l) in
     c.next_hop.ensures (states c.index-node.result.now.me) (stand-at c.args.self.now states c.args.place c.index-node.result.now a l is)
     ∙ ap (λ (x : ℕ). hop_of (states x) c.args.key) me

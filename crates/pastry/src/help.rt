@@ -1,0 +1,48 @@
+//! What is said of the use of the program.
+
+use crate::message::Grouped;
+use scenario_reader::MOST_NODES;
+use std::fmt;
+use std::rc::RcStr;
+
+/// Words by which programs are asked for help.
+const REQUESTS: [&str; 4] = ["--help", "-h", "help", "--version"];
+
+/// Whether words ask for help: there is none behind the program's name, or one of those by which programs are asked for it.
+pub(crate) fn ask_for_help(words: &[RcStr]) -> bool {
+    let asked = words.get(1..).unwrap_or(&[]);
+    asked.is_empty() || asked.iter().any(|word| REQUESTS.contains(&word.as_str()))
+}
+
+const MODES: &str = "\
+usage: pastry play < SCENARIO
+       pastry big [--nodes N] [--seed N]
+
+  play        plays the scenario on standard input, and writes its report
+  big         plays a scenario that it makes itself, and writes its summary and a tally
+";
+
+const STATUSES: &str = "\
+Statuses: 0 done, 2 these words are refused, 3 the input is no scenario, 4 the input could not be read, 5 the output could not
+be written, 6 too little memory, 120 the program could not be run before its proofs. README.md begins with an example,
+docs/TUTORIAL.md leads on from there, and docs/SCENARIOS.md has the language.";
+
+/// The modes, the options, the statuses, and where to read on. `scripts/usage` has the same text.
+#[derive(Clone, Copy)]
+pub(crate) struct Help;
+
+impl fmt::Display for Help {
+    fn fmt<W: fmt::Write>(&self, f: &mut fmt::Formatter<W>) -> fmt::Result {
+        let most = u64::MAX;
+        write!(
+            f,
+            "{MODES}
+  --nodes N   how many nodes big makes: 2 to {MOST_NODES}, 12 if not given
+  --seed N    the number from which big makes its scenario: 0 to {most}, 7 if not given
+  --room N    1 to 4096, 16 if not given; it has no effect in these modes
+  --size N    0 to 835584, 10000 if not given; it has no effect in these modes
+
+{STATUSES}"
+        )
+    }
+}

@@ -1,0 +1,4 @@
+pub mod Quiet
+pub mod Closed
+pub mod Excuses
+pub mod Laws

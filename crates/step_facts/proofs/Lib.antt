@@ -1,0 +1,9 @@
+pub mod Always
+pub mod Phases
+pub mod Told
+pub mod Learnt
+pub mod Knows
+pub mod Linked
+pub mod Messages
+pub mod Requests
+pub mod Receivers

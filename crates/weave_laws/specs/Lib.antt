@@ -1,0 +1,6 @@
+pub mod Cells
+pub mod Numbers
+pub mod Histories
+pub mod Woven
+pub mod AtNode
+pub mod Laws
