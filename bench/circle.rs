@@ -1,6 +1,7 @@
 // Identifiers on the circle and random words, for the plain Rust programs of several benchmarks.
 
-#[derive(Clone, Copy, PartialEq, Eq)]
+#[derive(Clone, Copy, Default, PartialEq, Eq)]
+#[repr(Rust, packed(8))]
 struct Id(u128);
 
 fn cw(a: Id, b: Id) -> u128 {

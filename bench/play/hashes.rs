@@ -70,6 +70,24 @@ fn block(seed: u64, number: u64) -> [u32; 16] {
 }
 
 /// The 32-bit words of ChaCha8 with the key that is this seed and zeros.
-fn words_of(seed: u64) -> impl Iterator<Item = u32> {
-    (0u64..).flat_map(move |number| block(seed, number))
+struct Random {
+    seed: u64,
+    /// The number of the next word.
+    next: u64,
+    block: [u32; 16],
+}
+
+impl Random {
+    fn new(seed: u64) -> Random {
+        Random { seed, next: 0, block: [0; 16] }
+    }
+
+    fn word(&mut self) -> u32 {
+        let at = self.next as usize % 16;
+        if at == 0 {
+            self.block = block(self.seed, self.next / 16);
+        }
+        self.next += 1;
+        self.block[at]
+    }
 }
