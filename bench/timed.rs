@@ -26,7 +26,10 @@ fn main() {
     let (mut status, mut usage) = (0, Usage::default());
     // SAFETY: both pointers are to values of this function, and `Usage` has the size and the order of fields of Linux's `rusage`.
     unsafe { wait4(child.id() as i32, &mut status, 0, &mut usage) };
-    assert!(status == 0, "the command ended with {status}");
+    if status != 0 {
+        eprintln!("{program} ended with status {}", status >> 8);
+        std::process::exit(1);
+    }
     let micros = |[seconds, micros]: [i64; 2]| 1_000_000 * seconds + micros;
     println!("{} {}", micros(usage.user) + micros(usage.system), usage.most_kilobytes);
 }

@@ -1,4 +1,5 @@
-// A scenario that is right, read and played. Nodes and files may be declared between actions, and all nodes are there from the start.
+// A scenario that is right, read and played. Nodes and files may be declared between actions, and all nodes are there from the
+// start.
 
 fn hex(word: &str) -> Vec<u8> {
     let value = |digit: u8| (digit as char).to_digit(16).unwrap() as u8;
@@ -35,7 +36,8 @@ impl<'a> Declared<'a> {
             }
         }
         let founder = founder.unwrap();
-        declared.nodes = declared.named.iter().map(|(_, id)| if *id == founder { Node::founder(*id) } else { Node::new(*id) }).collect();
+        let node = |id: Id| if id == founder { Node::founder(id) } else { Node::new(id) };
+        declared.nodes = declared.named.iter().map(|(_, id)| node(*id)).collect();
         declared
     }
 
