@@ -1,7 +1,10 @@
+pub mod OneMore
 pub mod Interleaved
 pub mod Sendings
 pub mod Parts
 pub mod Fresh
 pub mod Lawful
 pub mod AtNodes
+pub mod Sorted
+pub mod Once
 pub mod Examples

@@ -79,7 +79,7 @@ get_either (x ∷ xs) ys zero v e = inl e
 get_either (x ∷ xs) ys (suc m) v e = get_either xs ys m v e
 
 -- what the next entry takes was sent before
-sent_before : (past : List Entry) (a : Act) (acts : List Act) (es : List Entry) (m : ℕ) (v : Envelope) → AreInOrder (a ∷ acts) →
+pub sent_before : (past : List Entry) (a : Act) (acts : List Act) (es : List Entry) (m : ℕ) (v : Envelope) → AreInOrder (a ∷ acts) →
     Each (λ (b : Act). IsStamped b.entry) (a ∷ acts) → AllZip (IsEntryOf (sent_in (past ++ es))) (a ∷ acts) es → v.stamp < a.entry.stamp →
     slice_get (sent_in (past ++ es)) m ≡ Some v → slice_get (sent_in past) m ≡ Some v
 sent_before past a acts es m v o s z lt is =

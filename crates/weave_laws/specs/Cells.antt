@@ -53,6 +53,11 @@ abbrev pub AreStampedAfter : Stamp → List CellEntry → Type 0
 AreStampedAfter last [] = Unit {0}
 AreStampedAfter last (e ∷ es) = (e.stamp ≡ suc (max last (input_stamp e.input))) × AreStampedAfter e.stamp es
 
+-- the stamp of the last entry, or what it was before the first
+abbrev pub last_stamp : Stamp → List CellEntry → Stamp
+last_stamp last [] = last
+last_stamp last (e ∷ es) = last_stamp e.stamp es
+
 -- a step of node x in state s: its envelopes and notes are Step's, and its envelopes carry its stamp and the node as sender
 pub record IsStep (x : Id) (s : State) (e : CellEntry) : Type 0 where
   pub addressed : IsFor x e.input

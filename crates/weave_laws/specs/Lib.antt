@@ -1,4 +1,5 @@
 pub mod Cells
+pub mod Given
 pub mod Numbers
 pub mod Histories
 pub mod Woven
