@@ -94,17 +94,24 @@ fn a_joiner_waits_for_all_that_was_pledged(rt: HostRuntime) -> Result<(), Fail> 
     assert!(rt; taking.right().is_none());
     taking.expect_right(list(alloc, &[1])?, list(alloc, &[])?);
     taking.expect_right(list(alloc, &[9])?, list(alloc, &[9])?);
-    let later = Pledge::new(list(alloc, &[9])?, list(alloc, &[])?);
-    taking.keep(Taking::of(Some(later), None));
-    assert!(rt;
-        taking.left().is_some_and(|kept| kept.manifest().as_slice()
-            == [file(1), file(2)].as_slice())
-    );
     let copy = taking.copy(alloc)?;
     assert!(rt; !copy.complete(&store));
     store.bury(alloc, file(3))?;
     assert!(rt; !copy.complete(&store));
     store.bury(alloc, file(2))?;
     assert!(rt; copy.complete(&store) && taking.complete(&store));
+    Ok(())
+}
+
+#[test]
+fn a_later_pledge_of_a_side_is_dropped(rt: HostRuntime) -> Result<(), Fail> {
+    let alloc = rt.alloc();
+    let mut taking = Taking::new();
+    taking.expect_left(list(alloc, &[1, 2])?, list(alloc, &[3])?);
+    let later = Pledge::new(list(alloc, &[9])?, list(alloc, &[])?);
+    taking.keep(Taking::of(Some(later), None));
+    let kept = taking.left().expect(&rt, "the left side has pledged");
+    assert_eq!(rt; kept.manifest().as_slice(), [file(1), file(2)].as_slice());
+    assert!(rt; taking.right().is_none());
     Ok(())
 }
