@@ -1,7 +1,6 @@
 //! pastry: plays scenarios of a Pastry overlay, and prints what came of them.
 #![tactic(auto)]
 
-mod asked;
 mod cause;
 mod help;
 mod laws;

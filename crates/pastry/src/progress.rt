@@ -1,9 +1,8 @@
 //! How far a long run is, told on a terminal.
 
-use crate::asked::Asked;
 use crate::message::Grouped;
 use outside::Turnstile;
-use scenario_reader::Scenario;
+use scenario_reader::{Action, Scenario, What};
 use std::fmt;
 use std::io::IsTerminal;
 use std::sync::atomic::{AtomicU64, Ordering};
@@ -83,8 +82,7 @@ impl Progress<'_> {
 
     /// Learns which scenario is to be played.
     pub(crate) fn expect(&self, scenario: &Scenario) {
-        let most = Asked::by(scenario.actions()).most_turns();
-        self.most.store(most, Ordering::SeqCst);
+        self.most.store(most_turns(scenario), Ordering::SeqCst);
     }
 
     /// Tells that so many bytes were read, if that is due.
@@ -132,6 +130,20 @@ impl Progress<'_> {
         let gone = begun.elapsed(self.rt).ok()?;
         u64::try_from(gone.as_millis()).ok()
     }
+}
+
+/// The most turns that a play of a scenario has: a settle ends early if no message is left.
+fn most_turns(scenario: &Scenario) -> u64 {
+    let others = scenario.actions().iter().filter(|action| is_one_turn(action));
+    u64::from(scenario.tally().deliveries).saturating_add(others.count() as u64)
+}
+
+/// Whether an action is one turn and no delivery: a command or noise.
+fn is_one_turn(action: &Action) -> bool {
+    matches!(
+        &action.what,
+        What::Command { .. } | What::Noise { .. }
+    )
 }
 
 impl Turnstile for Progress<'_> {

@@ -140,6 +140,7 @@ impl ScenarioBuilder {
             founder: self.founder.unwrap(),
             files: self.files,
             actions: self.actions,
+            tally: self.tally,
         }
     }
 

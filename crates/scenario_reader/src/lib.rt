@@ -34,3 +34,4 @@ pub use name::Name;
 pub use node::{FileLine, NodeLine};
 pub use read::read_scenario;
 pub use scenario::Scenario;
+pub use tally::Tally;

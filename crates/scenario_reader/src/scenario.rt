@@ -2,9 +2,11 @@
 
 ghost use Rattle.std.specs.Prelude.{◌≡◌};
 ghost use Rattle.scenario_reader.specs.Rules.{KeepsRules};
+ghost use Rattle.scenario_reader.specs.Tallies.{tally_of};
 
 use crate::action::Action;
 use crate::node::{FileLine, NodeLine};
+use crate::tally::Tally;
 use ring_math::Id;
 use std::marker::Model;
 
@@ -15,17 +17,20 @@ pub struct Scenario {
     pub(crate) founder: Id,
     pub(crate) files: Vec<FileLine>,
     pub(crate) actions: Vec<Action>,
+    pub(crate) tally: Tally,
 }
 
 impl Model for Scenario {
     ghost use Rattle.scenario_reader.specs.Plain.{PlainScenario};
+    ghost use Rattle.std.specs.Prelude.{◌≡◌};
     ghost use Rattle.scenario_reader.specs.Rules.{KeepsRules};
+    ghost use Rattle.scenario_reader.specs.Tallies.{tally_of};
 
     ghost Value = { PlainScenario };
 
     ghost view = { λ a. record { nodes = a.nodes.items; founder = a.founder; files = a.files.items; actions = a.actions.items } };
 
-    ghost invariant = { λ a. KeepsRules (record { nodes = a.nodes.items; founder = a.founder; files = a.files.items; actions = a.actions.items }) };
+    ghost invariant = { λ a. KeepsRules (record { nodes = a.nodes.items; founder = a.founder; files = a.files.items; actions = a.actions.items }) × (a.tally ≡ tally_of a.actions.items) };
 }
 
 impl Scenario {
@@ -59,5 +64,12 @@ impl Scenario {
         ensures rules { KeepsRules self.now }
     {
         &self.actions
+    }
+
+    /// What the actions come to.
+    pub fn tally(&self) -> Tally
+        ensures { result ≡ tally_of self.now.actions }
+    {
+        self.tally
     }
 }

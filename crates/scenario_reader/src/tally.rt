@@ -5,13 +5,14 @@ ghost use Rattle.scenario_reader.specs.Tallies.{start, tallied};
 
 use crate::action::What;
 
-/// What the actions so far come to.
+/// What actions come to.
 #[derive(Clone, Copy)]
-pub(crate) struct Tally {
-    pub(crate) commands: u64,
-    /// Copies of a delivery: the number of the last `dup`, and 1 before any.
-    pub(crate) copies: u8,
-    pub(crate) deliveries: u32,
+pub struct Tally {
+    pub commands: u64,
+    /// Copies of a delivery from here on: the number of the last `dup`, and 1 before any.
+    pub copies: u8,
+    /// The deliveries that are asked for, each copy counted. A settle ends early if no message is left.
+    pub deliveries: u32,
 }
 
 impl Tally {

@@ -1,6 +1,5 @@
 //! What the lines before a fault have to do with it. These have no fault themselves.
 
-use crate::asked::Asked;
 use crate::message::line::{
     line_declaring, line_of, line_with, lines_before, part_at, word_at, word_numbered,
 };
@@ -101,14 +100,14 @@ fn passing_deliveries(alloc: Global, text: &[u8], number: u32, place: u32) -> Op
         return None;
     }
     let scenario = read_scenario(alloc, lines_before(text, number)).ok()?;
-    let asked = Asked::by(scenario.actions());
+    let tally = scenario.tally();
     let here = match part {
         Part::MessageNumber => 1,
-        Part::SettleCount => amount(word)?.saturating_mul(asked.copies),
+        Part::SettleCount => amount(word)?.saturating_mul(u64::from(tally.copies)),
         _ => amount(word)?,
     };
     Some(Deliveries {
-        before: asked.deliveries,
+        before: u64::from(tally.deliveries),
         here,
     })
 }
