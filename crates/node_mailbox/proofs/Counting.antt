@@ -8,6 +8,7 @@ use Rattle.std.proofs.lemmas.List.Elements.{Contains-append_right, Contains-appe
 use Rattle.std.proofs.lemmas.Slice.Eq.{bytes_eq-Decides}
 use Rattle.node_mailbox.specs.Times.{times}
 use Rattle.node_mailbox.specs.Pass.{PassView, TookOnlyPut}
+use Rattle.node_mailbox.specs.declared.limits.TheConstants.{ALL_PARTS}
 
 times-cons : (frame x : List ℕ) (xs : List (List ℕ)) → times frame (x ∷ xs) ≡ cond (bytes_eq frame x) 1 0 + times frame xs
 times-cons frame x xs = sum_by-cons (λ y. cond (bytes_eq frame y) 1 0) x xs
@@ -35,6 +36,6 @@ times-from_Contains frame (x ∷ xs) has = elim (Contains-append_cases (x ∷ []
 ]
 
 -- with all the parts, what was taken was put
-pub taken_was_put : (p : PassView) (frame : List ℕ) → p.parts ≡ 65 → TookOnlyPut p → Contains p.taken frame → Contains p.put frame
+pub taken_was_put : (p : PassView) (frame : List ℕ) → p.parts ≡ ALL_PARTS → TookOnlyPut p → Contains p.taken frame → Contains p.put frame
 taken_was_put p frame all known has =
     let taken = times-from_Contains frame p.taken has in let most = known.whole all frame in Contains-from_times frame p.put (omega arith)

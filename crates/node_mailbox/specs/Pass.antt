@@ -1,5 +1,6 @@
 -- What contracts see of a pass, what each step makes of it, and what a pass with all the parts knows.
 use Rattle.std.specs.Prelude.{◌≡◌, ◌≤◌, ℕ, ◌+◌, ◌-◌, List, [], ◌∷◌, ◌++◌}
+use Rattle.node_mailbox.specs.declared.limits.TheConstants.{ALL_PARTS}
 use Rattle.node_mailbox.specs.Times.{times}
 
 -- the mailbox that it is of, its parts, and the frames that it put and took, each list in the order of its steps
@@ -34,10 +35,10 @@ split_off p = fresh_pass p.mailbox 1
 abbrev pub after_join : PassView → PassView → PassView
 after_join p other = pass_view p.mailbox (p.parts + other.parts) (p.put ++ other.put) (p.taken ++ other.taken)
 
--- of a pass with all 65 parts: each frame stands in its taken list at most as often as in its put list
+-- of a pass with all the parts: each frame stands in its taken list at most as often as in its put list
 pub record TookOnlyPut (p : PassView) : Type 0 where
-  pub whole : p.parts ≡ 65 → (frame : List ℕ) → times frame p.taken ≤ times frame p.put
+  pub whole : p.parts ≡ ALL_PARTS → (frame : List ℕ) → times frame p.taken ≤ times frame p.put
 
--- of a pass with all 65 parts: each frame stands in both lists equally often
+-- of a pass with all the parts: each frame stands in both lists equally often
 pub record TookAllPut (p : PassView) : Type 0 where
-  pub whole : p.parts ≡ 65 → (frame : List ℕ) → times frame p.taken ≡ times frame p.put
+  pub whole : p.parts ≡ ALL_PARTS → (frame : List ℕ) → times frame p.taken ≡ times frame p.put

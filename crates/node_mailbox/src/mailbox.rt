@@ -2,6 +2,7 @@
 
 ghost use Rattle.std.specs.Prelude.{◌≡◌, ◌≤◌, IfOk, IfErr, IfSome, IfNone, OnOk, OnErr};
 ghost use Rattle.node_mailbox.specs.Pass.{fresh_pass, after_put, after_take, after_split, split_off, after_join, TookOnlyPut, TookAllPut};
+ghost use Rattle.node_mailbox.specs.declared.limits.TheConstants.{ALL_PARTS};
 
 use crate::hand::Hand;
 use crate::rule::{Parts, Pop, Push, Queue};
@@ -44,9 +45,9 @@ impl Model for MailPass {
 }
 
 impl Mailbox {
-    /// An empty mailbox, and the pass with all of its 65 parts.
+    /// An empty mailbox, and the pass with [`ALL_PARTS`] of it.
     pub fn new(alloc: Global) -> Result<(Mailbox, MailPass), OutOfMemory>
-        ensures { IfOk result (λ made. made.1 ≡ fresh_pass made.0 65) }
+        ensures { IfOk result (λ made. made.1 ≡ fresh_pass made.0 ALL_PARTS) }
     {
         let (queue, pass) = Queue::with_rule(alloc)?;
         Ok((Mailbox { queue }, MailPass { pass }))

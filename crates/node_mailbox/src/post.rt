@@ -3,6 +3,7 @@
 ghost use Rattle.std.specs.Prelude.{◌≡◌, ◌≢◌, ◌<◌, ℕ, Some, length, map, slice_get, All, AllPairs, IfOk, IfSome, IfNone};
 ghost use Rattle.node_mailbox.specs.Pass.{fresh_pass};
 ghost use Rattle.node_mailbox.specs.Post.{AreOf, mailbox_at};
+ghost use Rattle.node_mailbox.specs.declared.limits.TheConstants.{ALL_PARTS};
 
 use crate::mailbox::Mailbox;
 use crate::passes::Passes;
@@ -33,7 +34,7 @@ impl Post {
     pub fn new(alloc: Global, nodes: &[Id]) -> Result<(Post, Passes), OutOfMemory>
         requires { AllPairs ◌≢◌ nodes.now }
         ensures nodes { IfOk result (λ made. made.0.nodes ≡ nodes.now) }
-        ensures passes { IfOk result (λ made. made.1 ≡ map (λ mailbox. fresh_pass mailbox 65) made.0.mailboxes) }
+        ensures passes { IfOk result (λ made. made.1 ≡ map (λ mailbox. fresh_pass mailbox ALL_PARTS) made.0.mailboxes) }
         ensures of { IfOk result (λ made. AreOf made.1 made.0) }
     {
         let mut mailboxes = Vec::with_capacity(alloc, nodes.len())?;

@@ -13,10 +13,11 @@ pub(crate) struct Rule;
 impl Protocol<Frame, Hand> for Rule {
     ghost use Rattle.std.specs.Prelude.{[]};
     ghost use Rattle.node_mailbox.specs.Rule.{hand, KeepsRule};
+    ghost use Rattle.node_mailbox.specs.declared.limits.TheConstants.{ALL_PARTS};
 
     ghost holds = { λ queue hands. KeepsRule queue hands };
 
-    ghost first = { hand 65 [] [] };
+    ghost first = { hand ALL_PARTS [] [] };
 }
 
 /// The frame goes to the back of the queue and to the end of the put list.
