@@ -1,15 +1,12 @@
 -- How commands are closed by one list of notes after another, and their lines one by one.
-use Rattle.std.proofs.Common.{◌≡◌, ℕ, suc, ◌+◌, ◌<◌, ◌==◌, Bool, true, false, if◌then◌else◌, Option, Some, None, List, [], ◌∷◌, ◌++◌, length, get_or, take}
-use Rattle.std.proofs.Common.{drop, refl, sym, ◌∙◌, ap, map, append-nil, add-zero, arith}
+use Rattle.std.proofs.Common.{◌≡◌, ℕ, suc, ◌+◌, ◌-◌, ◌<◌, ◌==◌, Bool, true, false, if◌then◌else◌, Option, Some, None, List, [], ◌∷◌, ◌++◌, length, get_or}
+use Rattle.std.proofs.Common.{take, drop, replicate, refl, sym, ◌∙◌, ap, map, add-zero, arith}
 use Rattle.std.specs.Borrow.{Bor}
 use Rattle.std.specs.Option.{option_or, option_copied}
 use Rattle.std.proofs.lemmas.List.{take-append-le, take_all, at_drop_more}
-use Rattle.std.proofs.lemmas.Grind.{flat_map-append}
 use Rattle.wire_msg.specs.declared.note.Note.{Note}
 use Rattle.wire_msg.specs.declared.note.Note.TheVariants as note
 use Rattle.wire_msg.specs.declared.reply.Answer.{Answer}
-use Rattle.overlay_rules.specs.declared.entry.Entry.{Entry}
-use Rattle.overlay_rules.specs.Table.{notes_in}
 use Rattle.scenario_reader.specs.declared.node.NodeLine.{NodeLine}
 use Rattle.delivery_report.specs.Report.{closing_of, closings_from, command_line, lines_from}
 use Rattle.delivery_report.proofs.Steps.{take-next}
@@ -38,11 +35,13 @@ pub closing_of-more : (n : ℕ) (notes : List Note) (i : ℕ) (last : Note) → 
 closing_of-more n notes i last within is =
     ap (closing_of n) (take-next notes i last within is) ∙ closing_of-append n (take i notes) (last ∷ [])
 
--- the notes of one entry more
-pub notes_in-take : (es : List Entry) (i : ℕ) (e : Entry) → i < length es → e ≡ get_or es i e → notes_in (take (i + 1) es) ≡ notes_in (take i es) ++ e.notes
-notes_in-take es i e within is =
-    ap notes_in (take-next es i e within is) ∙ flat_map-append (λ (x : Entry). x.notes) (take i es) (e ∷ [])
-    ∙ ap (λ ns. notes_in (take i es) ++ ns) (append-nil e.notes)
+-- so many slots, none of them filled
+pub unfilled : {A : Type 0} (before items : List (Option A)) (len n : ℕ) → before ≡ [] → len ≡ 0 → items ≡ take n before ++ replicate (n - len) None →
+    items ≡ replicate n None
+unfilled before items len n none short is =
+    let rest : n - len ≡ n = omega arith in
+    is ∙ ap (λ xs. take n xs ++ replicate (n - len) None) none ∙ ap (λ xs. xs ++ replicate (n - len) None) (take_all n [] (omega arith)) ∙
+    ap (λ k. replicate k None) rest
 
 -- slots that say of each command how it was closed
 pub closings-by_slots : (notes : List Note) (slots : List (Option (Bor Answer))) (n : ℕ) →

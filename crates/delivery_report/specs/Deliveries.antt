@@ -1,5 +1,5 @@
 -- How the deliveries of a record are printed.
-use Rattle.std.specs.Prelude.{ℕ, List, [], ◌∷◌, ◌++◌, map, option_map, Option, Some, None, codes, decimal}
+use Rattle.std.specs.Prelude.{ℕ, List, [], ◌∷◌, ◌++◌, option_map, Option, Some, None, codes, decimal}
 use Rattle.ring_math.specs.Texts.{text_of}
 use Rattle.wire_msg.specs.declared.note.Note.{Note}
 use Rattle.wire_msg.specs.declared.note.Note.TheVariants as note
@@ -35,9 +35,6 @@ lines_after nodes sent (e ∷ es) = entry_lines nodes (visit sent e.event) e.not
 abbrev pub delivery_lines : List NodeLine → List Entry → List ℕ
 delivery_lines nodes es = lines_after nodes [] es
 
--- what a reader of a record keeps of it: where each message went, and from this the node of an event
-abbrev pub receivers_of : List Envelope → List ℕ
-receivers_of sent = map (λ (e : Envelope). e.receiver) sent
-
+-- the node of an event
 abbrev pub node_of : Option Visit → Option ℕ
 node_of at = option_map (λ (v : Visit). v.node) at

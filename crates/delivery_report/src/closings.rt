@@ -8,7 +8,7 @@ ghost use Rattle.delivery_report.specs.Texts.{commands_of};
 use crate::answers::answer;
 use crate::names::Names;
 use crate::text::Text;
-use overlay_rules::Entry;
+use overlay_rules::Entries;
 use ring_math::OutOfMemory;
 use scenario_reader::{Scenario, What};
 use std::alloc::Global;
@@ -33,7 +33,7 @@ pub(crate) fn command_lines(
     text: &mut Text,
     names: &Names,
     commands: u64,
-    entries: &[Entry],
+    entries: &Entries,
 ) -> Result<(), OutOfMemory>
     ensures { OnOk result (text.new ≡ text.old ++ command_lines names.now commands entries.now) }
 {
@@ -65,15 +65,13 @@ fn command_line(
 pub(crate) fn closings_of(
     alloc: Global,
     commands: u64,
-    entries: &[Entry],
+    entries: &Entries,
 ) -> Result<Vec<Option<&Answer>>, OutOfMemory>
     ensures { IfOk result (λ closings. map option_copied closings.items ≡ closings_of commands entries.now) }
 {
     let mut closings = Vec::new(alloc);
     closings.resize(commands as usize, None)?;
-    for entry in entries {
-        take_in_all(&mut closings, entry.notes.as_slice());
-    }
+    take_in_all(&mut closings, entries.notes());
     Ok(closings)
 }
 

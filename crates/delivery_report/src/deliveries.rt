@@ -1,67 +1,72 @@
 //! Where lookups were delivered.
 
-ghost use Rattle.std.specs.Prelude.{◌≡◌, ◌++◌, List, map, OnOk};
-ghost use Rattle.wire_msg.specs.Words.{Envelope as PlainEnvelope, plain_envelope};
+ghost use Rattle.std.specs.Prelude.{◌≡◌, ◌++◌, map, OnOk};
+ghost use Rattle.wire_msg.specs.Words.{plain_envelope};
 ghost use Rattle.overlay_rules.specs.Record.{visit};
-ghost use Rattle.delivery_report.specs.Deliveries.{delivery_line, note_lines, entry_lines, delivery_lines, receivers_of, node_of};
+ghost use Rattle.overlay_rules.specs.Seen.{event_seen};
+ghost use Rattle.delivery_report.specs.Deliveries.{delivery_line, note_lines, entry_lines, delivery_lines, node_of};
 
 use crate::names::Names;
 use crate::text::Text;
-use overlay_rules::{Entry, Event};
+use overlay_rules::{Entries, EventRef};
 use ring_math::{Id, OutOfMemory};
-use std::alloc::Global;
 use wire_msg::{Envelope, Note};
 
 /// A line for each delivery, in the order of the record.
 pub(crate) fn delivery_lines(
-    alloc: Global,
     text: &mut Text,
     names: &Names,
-    entries: &[Entry],
+    entries: &Entries,
 ) -> Result<(), OutOfMemory>
     ensures { OnOk result (text.new ≡ text.old ++ delivery_lines names.now entries.now) }
 {
-    let mut receivers = Vec::new(alloc);
-    for entry in entries {
-        entry_lines(text, names, &receivers, entry)?;
-        add_receivers(&mut receivers, entry.messages.as_slice())?;
+    let sent = entries.sent();
+    let mut before = 0;
+    for place in 0..entries.len() {
+        let entry = entries.at(place);
+        entry_lines(text, names, &sent[..before], &entry.event, entry.notes)?;
+        // Named, since the prover has to see what type a command is.
+        if let EventRef::Command {
+            command: _command,
+            ..
+        } = entry.event
+        {}
+        before += entry.messages.len();
     }
     Ok(())
 }
 
-/// The lines of an entry, before which messages went to these receivers.
+/// The lines of an event's notes, before which these messages were sent.
 fn entry_lines(
     text: &mut Text,
     names: &Names,
-    receivers: &[Id],
-    entry: &Entry,
+    sent: &[Envelope],
+    event: &EventRef,
+    notes: &[Note],
 ) -> Result<(), OutOfMemory>
-    ensures { (sent : List PlainEnvelope) → receivers_of sent ≡ receivers.now →
-        OnOk result (text.new ≡ text.old ++ entry_lines names.now (visit sent entry.now.event) entry.now.notes) }
+    ensures { OnOk result (text.new ≡ text.old ++ entry_lines names.now (visit (map plain_envelope sent.now) (event_seen event.now)) notes.now) }
 {
-    match node_of(receivers, &entry.event) {
-        Some(node) => note_lines(text, names, node, entry.notes.as_slice()),
+    // Most entries note nothing, and their node is not looked for.
+    if notes.is_empty() {
+        return Ok(());
+    }
+    match node_of(sent, event) {
+        Some(node) => note_lines(text, names, node, notes),
         None => Ok(()),
     }
 }
 
-/// The node of an event, before which messages went to these receivers.
-fn node_of(receivers: &[Id], event: &Event) -> Option<Id>
-    ensures { (sent : List PlainEnvelope) → receivers_of sent ≡ receivers.now → result ≡ node_of (visit sent event.now) }
+/// The node of an event, before which these messages were sent.
+fn node_of(sent: &[Envelope], event: &EventRef) -> Option<Id>
+    ensures { result ≡ node_of (visit (map plain_envelope sent.now) (event_seen event.now)) }
 {
     match event {
-        Event::Command { node, .. } | Event::Noise { node } => Some(*node),
-        Event::Deliver { message } => receivers.get(*message as usize).copied(),
+        EventRef::Command { node, .. } | EventRef::Noise { node } => Some(*node),
+        EventRef::Deliver { message } => {
+            let envelope = sent.get(*message as usize)?;
+            Some(envelope.receiver)
+        }
     }
-}
-
-fn add_receivers(receivers: &mut Vec<Id>, messages: &[Envelope]) -> Result<(), OutOfMemory>
-    ensures { OnOk result (receivers.new.items ≡ receivers.old.items ++ receivers_of (map plain_envelope messages.now)) }
-{
-    for message in messages {
-        receivers.push(message.receiver)?;
-    }
-    Ok(())
 }
 
 fn note_lines(text: &mut Text, names: &Names, node: Id, notes: &[Note]) -> Result<(), OutOfMemory>

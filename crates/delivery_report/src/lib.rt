@@ -60,11 +60,11 @@ fn report_of(
         IfOk result (λ text. text ≡ report_of nodes.now g commands steps.now.entries steps.now.skipped) }
 {
     let names = Names::of(alloc, nodes)?;
-    let entries = steps.entries.as_slice();
+    let entries = &steps.entries;
     let summary = summary_of(alloc, steps)?;
     let mut text = Text::new(alloc);
     command_lines(alloc, &mut text, &names, commands, entries)?;
-    delivery_lines(alloc, &mut text, &names, entries)?;
+    delivery_lines(&mut text, &names, entries)?;
     summary.write(&mut text)?;
     Ok(text.into_frame())
 }
@@ -75,7 +75,7 @@ fn brief_of(alloc: Global, commands: u64, steps: &Record) -> Result<Frame, OutOf
         IfOk result (λ text. text ≡ brief_of g commands steps.now.entries steps.now.skipped) }
 {
     let summary = summary_of(alloc, steps)?;
-    let closings = closings_of(alloc, commands, steps.entries.as_slice())?;
+    let closings = closings_of(alloc, commands, &steps.entries)?;
     let mut text = Text::new(alloc);
     summary.write(&mut text)?;
     tally_of(&closings).write(&mut text)?;

@@ -4,7 +4,7 @@ ghost use Rattle.schedule.specs.Schedule.{setting_of};
 
 use super::*;
 use overlay_rules::{Entries, Entry, Event};
-use ring_math::{Bytes, FileId, Id, Ids};
+use ring_math::{Bytes, FileId, Id, IdsBuilder};
 use scenario_reader::{Name, read_scenario};
 use std::test::Fail;
 use wire_msg::{Answer, Command, Envelope, Envelopes, Message, Note, Notes, Own, Reply, Why};
@@ -156,12 +156,13 @@ fn replies(alloc: Global) -> Result<Vec<Answer>, Fail> {
 }
 
 fn stored(alloc: Global) -> Result<Reply, Fail> {
-    let mut holders = Ids::with_room(alloc)?;
+    let mut holders = IdsBuilder::new();
     for holder in [A, B, C] {
         if !holders.push(holder) {
             return Err("there is room for 17 holders")?;
         }
     }
+    let holders = holders.finish(alloc)?;
     Ok(Reply::Stored { holders })
 }
 

@@ -13,7 +13,6 @@ use wire_msg::Frame;
 /// A text, seen as its bytes.
 #[derive(Drop)]
 pub(crate) struct Text {
-    alloc: Global,
     bytes: Vec<u8>,
 }
 
@@ -30,7 +29,6 @@ impl Text {
         ensures { result ≡ [] }
     {
         Text {
-            alloc,
             bytes: Vec::new(alloc),
         }
     }
@@ -80,8 +78,12 @@ impl Text {
         if bytes.is_empty() {
             return self.put(b"-");
         }
-        let digits = hex::encode(self.alloc, bytes)?;
-        self.put(digits.as_bytes())
+        let start = self.bytes.len();
+        let room = bytes.len().checked_mul(2).ok_or(OutOfMemory)?;
+        let end = start.checked_add(room).ok_or(OutOfMemory)?;
+        self.bytes.resize(end, 0)?;
+        hex::encode_to_slice(bytes, &mut self.bytes[start..]).unwrap();
+        Ok(())
     }
 
     pub(crate) fn into_frame(self) -> Frame

@@ -117,7 +117,7 @@ impl Arena {
         change_slot(&mut self.entries, entry, slot);
     }
 
-    /// The same entries in memory of their own.
+    /// The same entries, which share their bytes with these.
     pub(crate) fn copy(&self, alloc: Global) -> Result<Arena, OutOfMemory>
         ensures { IfOk result (λ copy. copy.files ≡ self.now.files) }
     {
@@ -172,7 +172,7 @@ fn change_slot(entries: &mut Vec<Held>, entry: usize, slot: Option<Bytes>)
     held.slot = slot;
 }
 
-/// The same bytes in memory of their own, or again a tombstone.
+/// The same bytes, shared, or again a tombstone.
 fn copy_of(alloc: Global, slot: &Option<Bytes>) -> Result<Option<Bytes>, OutOfMemory>
     ensures { IfOk result (λ copy. copy ≡ slot.now) }
 {

@@ -279,8 +279,8 @@ impl FileStore {
     ///
     /// Memory can be refused only where a tombstone would be laid, and then the store is as before.
     pub fn bury_all(&mut self, _alloc: Global, tombs: &FileIds) -> Result<(), OutOfMemory>
-        ensures buried { OnOk result (self.new.files ≡ buried_all self.old.files tombs.now.files) }
-        ensures refused { OnErr result (lays_any self.old.files tombs.now.files ≡ true) }
+        ensures buried { OnOk result (self.new.files ≡ buried_all self.old.files tombs.now) }
+        ensures refused { OnErr result (lays_any self.old.files tombs.now ≡ true) }
         ensures as_before { OnErr result (self.new.files ≡ self.old.files) }
     {
         self.reserve_for(tombs.as_slice())?;
@@ -303,16 +303,16 @@ impl FileStore {
 
     /// The files of all entries, tombstones among them, by rising file identifier.
     pub fn files(&self, alloc: Global) -> Result<FileIds, OutOfMemory>
-        ensures { IfOk result (λ list. list.files ≡ map (λ h. h.file) self.now.files) }
+        ensures { IfOk result (λ list. list ≡ map (λ h. h.file) self.now.files) }
     {
-        let mut files = FileIds::with_room(alloc, self.arena.len())?;
+        let mut files = Vec::with_capacity(alloc, self.arena.len())?;
         for place in 0..self.arena.len() {
-            files.push(self.arena.at(place).file);
+            files.push(self.arena.at(place).file)?;
         }
-        Ok(files)
+        FileIds::of(files)
     }
 
-    /// The same files and tombstones in memory of their own.
+    /// The same files and tombstones. The bytes of files are shared.
     pub fn copy(&self, alloc: Global) -> Result<FileStore, OutOfMemory>
         ensures { IfOk result (λ copy. copy.files ≡ self.now.files) }
     {

@@ -17,14 +17,14 @@ fn bytes(alloc: Global, text: &[u8]) -> Result<Bytes, Fail> {
 }
 
 fn list(alloc: Global, numbers: &[u16]) -> Result<FileIds, Fail> {
-    if numbers.len() > 4096 {
+    let mut files = Vec::new(alloc);
+    for n in numbers {
+        files.push(file(*n))?;
+    }
+    if files.len() > 4096 {
         return Err(Fail::from("a list has at most 4,096 files"));
     }
-    let mut files = FileIds::with_room(alloc, numbers.len())?;
-    for n in numbers {
-        files.push(file(*n));
-    }
-    Ok(files)
+    Ok(FileIds::of(files)?)
 }
 
 /// Files without bytes, as many as are asked for, in an order that is not theirs.

@@ -5,7 +5,7 @@ ghost use Rattle.std.specs.List.{list_any};
 ghost use Rattle.overlay_rules.specs.Joining.{unanswered, is_unanswered, was_probed, answered_by};
 ghost use Rattle.join_core.specs.Probes.{new_of, probed_with, are_answered};
 
-use ring_math::{Id, Ids, OutOfMemory};
+use ring_math::{Id, Ids, IdsBuilder, OutOfMemory};
 use std::alloc::Global;
 use std::marker::Model;
 
@@ -77,13 +77,13 @@ impl Probed {
         ensures { IfOk result (λ more. more ≡ new_of self.now leafs.now) }
     {
         let leafs = leafs.as_slice();
-        let mut more = Ids::with_room(alloc)?;
+        let mut more = IdsBuilder::new();
         for leaf in leafs {
             if !self.contains(*leaf) {
                 more.push(*leaf);
             }
         }
-        Ok(more)
+        more.finish(alloc)
     }
 
     /// The same with the sender's answer, and with these probed too.

@@ -1,5 +1,5 @@
 use super::*;
-use ring_math::{Id, Ids};
+use ring_math::{Id, Ids, IdsBuilder};
 use std::alloc::Global;
 use std::test::Fail;
 
@@ -9,11 +9,11 @@ fn id(first: u8) -> Id {
 }
 
 fn list(alloc: Global, firsts: &[u8]) -> Result<Ids, Fail> {
-    let mut ids = Ids::with_room(alloc)?;
+    let mut ids = IdsBuilder::new();
     for first in firsts {
         ids.push(id(*first));
     }
-    Ok(ids)
+    Ok(ids.finish(alloc)?)
 }
 
 /// It has joined between 30~ and 50~ as far as their leases, by attempt 1 and command 7.

@@ -1,10 +1,12 @@
 -- The closest of a list, one identifier more at a time, and of both sides of a leaf set.
-use Rattle.std.proofs.Common.{◌≡◌, ℕ, ◌+◌, ◌<◌, ◌⊎◌, true, false, List, [], ◌∷◌, ◌++◌, length, take, get_or, not, Option, Some, sym, subst, ap, ◌∙◌, inl, inr}
+use Rattle.std.proofs.Common.{◌≡◌, ℕ, suc, ◌+◌, ◌<◌, ◌⊎◌, true, false, List, [], ◌∷◌, ◌++◌, length, take, get_or, not, Option, Some}
+use Rattle.std.proofs.Common.{sym, subst, ap, ◌∙◌, inl, inr, arith}
 use Rattle.std.specs.List.{Contains}
-use Rattle.std.proofs.lemmas.Bool.{cases_Bool, not_from_false}
+use Rattle.std.proofs.lemmas.Bool.{cases_Bool, not_from_false, cond-true, cond-false}
 use Rattle.std.proofs.lemmas.List.{take_more}
 use Rattle.std.proofs.lemmas.List.Elements.{Contains-append_left, Contains-append_right, Contains-append_cases}
 use Rattle.ring_math.specs.Nearer.{nearer_of, improves}
+use Rattle.ring_math.specs.Ring.{is_nearer}
 use Rattle.ring_math.specs.Sides.{is_in, also_of}
 use Rattle.ring_math.proofs.Found.{Found, found_same, found_itself, either, found_both}
 use Rattle.ring_math.proofs.Membership.{Contains-here, Contains-cases, Contains-none, Contains-filter, Contains-from_filter, Contains-is_in}
@@ -32,6 +34,21 @@ found_more xs i x key o lt read h =
     found_same (either (Contains (take i xs)) (λ z. z ≡ x)) (Contains (take (i + 1) xs)) key (nearer_of o (Some x) key)
     (λ z p. contains_more xs i x z lt read p) (λ z p. contains_fewer xs i x z lt read p)
     (found_both (Contains (take i xs)) (λ z. z ≡ x) key o (Some x) h (found_itself key x))
+
+-- the next is nearer than the nearest so far, or it is not
+pub found_nearer : (xs : List ℕ) (i x y key : ℕ) → i < length xs → x ≡ get_or xs i x → is_nearer x y key ≡ true →
+    Found (Contains (take i xs)) key (Some y) → Found (Contains (take (i + 1) xs)) key (Some x)
+found_nearer xs i x y key lt read e h =
+    subst (Found (Contains (take (i + 1) xs)) key) (cond-true (is_nearer x y key) (Some x) (Some y) e) (found_more xs i x key (Some y) lt read h)
+
+pub found_not_nearer : (xs : List ℕ) (i x y key : ℕ) → i < length xs → x ≡ get_or xs i x → is_nearer x y key ≡ false →
+    Found (Contains (take i xs)) key (Some y) → Found (Contains (take (i + 1) xs)) key (Some y)
+found_not_nearer xs i x y key lt read e h =
+    subst (Found (Contains (take (i + 1) xs)) key) (cond-false (is_nearer x y key) (Some x) (Some y) e) (found_more xs i x key (Some y) lt read h)
+
+-- a list's element behind its first is one of the rest
+pub read_rest : (xs rest : List ℕ) (first i x : ℕ) → xs ≡ first ∷ rest → x ≡ get_or rest i x → x ≡ get_or xs (i + 1) x
+read_rest xs rest first i x is read = let next : i + 1 ≡ suc i = omega arith in rw (is, next) read
 
 -- the same among those that improve on another
 abbrev pub better_in : List ℕ → ℕ → ℕ → ℕ → ℕ → Type 0

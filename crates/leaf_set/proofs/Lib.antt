@@ -1,3 +1,4 @@
 pub mod Places
 pub mod Learning
 pub mod Found
+pub mod Neighbours

@@ -11,7 +11,7 @@ ghost use Rattle.leaf_set.specs.Range.{is_in_range};
 
 mod side;
 
-use ring_math::{Direction, Id, Ids, nearer_of};
+use ring_math::{Direction, Id, IdsBuilder, nearer_of};
 use side::Side;
 use std::marker::Model;
 
@@ -24,11 +24,18 @@ pub struct LeafSet {
 }
 
 impl Model for LeafSet {
+    ghost use Rattle.std.specs.Prelude.{◌<◌, ◌^◌, All};
     ghost use Rattle.leaf_set.specs.Leaves.{Leaves};
+    ghost use Rattle.leaf_set.specs.Rising.{Rises};
+    ghost use Rattle.ring_math.specs.Direction.{far};
+    ghost use Rattle.ring_math.specs.declared.direction.Direction.TheVariants.{Clockwise, Counterclockwise};
 
     ghost Value = { Leaves };
 
     ghost view = { λ a. record { me = a.me; right = a.right; left = a.left } };
+
+    ghost invariant = { λ a. Rises (far a.me Clockwise) a.right × Rises (far a.me Counterclockwise) a.left
+        × All (λ z. z < 2 ^ 128) a.right × All (λ z. z < 2 ^ 128) a.left };
 }
 
 impl LeafSet {
@@ -65,7 +72,8 @@ impl LeafSet {
     fn has(&self, id: Id) -> bool
         ensures { result ≡ holds self.now id }
     {
-        self.right.has(id) || self.left.has(id)
+        self.right.holds(self.me, Direction::Clockwise, id)
+            || self.left.holds(self.me, Direction::Counterclockwise, id)
     }
 
     /// Takes an identifier in on each side where it is among the nearest. It answers whether the identifier was
@@ -75,7 +83,8 @@ impl LeafSet {
         ensures stands { (known : List Id) → StandsFor self.old known → StandsFor self.new (learn_of self.old.me known id) }
         ensures answer { result ≡ not (holds self.old id) && holds self.new id }
     {
-        if id == self.me || self.has(id) {
+        // Whom neither side reaches changes neither: most of a large ring, so it is asked before the sides are searched.
+        if id == self.me || !self.in_range(id) || self.has(id) {
             return false;
         }
         let on_right = self.right.place(self.me, Direction::Clockwise, id);
@@ -111,7 +120,9 @@ impl LeafSet {
         ensures { let leaves = in_order self.now in
             MatchOption result (leaves ≡ []) (λ y. IsClosest (Contains leaves) key y) }
     {
-        nearer_of(self.right.nearest(key), self.left.nearest(key), key)
+        let on_right = self.right.nearest(self.me, Direction::Clockwise, key);
+        let on_left = self.left.nearest(self.me, Direction::Counterclockwise, key);
+        nearer_of(on_right, on_left, key)
     }
 
     /// Of the leaves that share at least `least` digits with the key and are nearer to it than `than`, the nearest.
@@ -131,17 +142,21 @@ impl LeafSet {
     pub fn count(&self) -> usize
         ensures { result ≡ length (in_order self.now) }
     {
-        self.right.as_slice().len() + self.left.count_besides(&self.right)
+        let besides = self
+            .left
+            .count_besides(&self.right, self.me, Direction::Clockwise);
+        self.right.as_slice().len() + besides
     }
 
     /// Appends the leaves in leaf order: the right side, nearest first, then those of the left side, nearest first,
     /// that were not yet said.
-    pub fn copy_to(&self, out: &mut Ids)
+    pub fn copy_to(&self, out: &mut IdsBuilder)
         requires { length out.old ≤ 1 }
         ensures { out.new ≡ out.old ++ in_order self.now }
     {
         self.right.copy_to(out);
-        self.left.copy_besides(&self.right, out);
+        self.left
+            .copy_besides(&self.right, self.me, Direction::Clockwise, out);
     }
 }
 

@@ -1,16 +1,36 @@
 //! One side of a leaf set: the nearest [`LEAVES_PER_SIDE`] identifiers, going one way round the circle.
 
-ghost use Rattle.std.specs.Prelude.{◌≡◌, ◌<◌, ◌≤◌, ◌+◌, ◌-◌, ◌++◌, ◌∷◌, not, filter, [], ℕ, List, length, take, nat_lt, false, slice_get};
+ghost use Rattle.std.specs.Prelude.{◌≡◌, ◌<◌, ◌≤◌, ◌+◌, ◌-◌, ◌^◌, ◌++◌, All, ◌∷◌, not, filter, [], ℕ, List, length, take, nat_lt, false, slice_get};
 ghost use Rattle.std.specs.Prelude.{MatchOption, Contains};
 ghost use Rattle.std.specs.List.{position_or_len};
 ghost use Rattle.ring_math.specs.Direction.{far, reaches as reaches_of};
 ghost use Rattle.ring_math.specs.Members.{IsClosest};
 ghost use Rattle.ring_math.specs.Sides.{placed, is_in};
 ghost use Rattle.leaf_set.specs.Leaves.{Improves};
+ghost use Rattle.leaf_set.specs.Beside.{IsBefore, IsFrom};
+ghost use Rattle.leaf_set.specs.Rising.{Rises};
 ghost use Rattle.leaf_set.specs.Room.{put_in as put_in_of};
 
-use ring_math::{Direction, Id, Ids, LEAVES_PER_SIDE, MOST_MEMBERS, distance, improves, nearer_of};
+use ring_math::{
+    Direction, Id, IdsBuilder, LEAVES_PER_SIDE, MOST_MEMBERS, distance, improves, nearer_of,
+};
 use std::marker::Model;
+
+/// The place before this one among so many round the circle, where a place past the last is before the first.
+fn place_before(place: usize, count: usize) -> usize
+    requires { (0 < count) × (place ≤ count) }
+    ensures { IsBefore result place count }
+{
+    if place == 0 { count - 1 } else { place - 1 }
+}
+
+/// The place itself, and the first where it is past the last.
+fn place_from(place: usize, count: usize) -> usize
+    requires { (0 < count) × (place ≤ count) }
+    ensures { IsFrom result place count }
+{
+    if place == count { 0 } else { place }
+}
 
 /// Moves the identifiers from a place on up by one, which drops the last, and fills the place.
 fn put_in(ids: &mut [Id; LEAVES_PER_SIDE], place: usize, id: Id)
@@ -23,7 +43,7 @@ fn put_in(ids: &mut [Id; LEAVES_PER_SIDE], place: usize, id: Id)
 }
 
 /// Appends an identifier to a list that has room for it.
-fn append(out: &mut Ids, id: Id)
+fn append(out: &mut IdsBuilder, id: Id)
     requires { length out.old < MOST_MEMBERS }
     ensures { out.new ≡ out.old ++ id ∷ [] }
 {
@@ -83,30 +103,44 @@ impl Side {
         self.as_slice().get(n).copied()
     }
 
-    pub(crate) fn has(&self, id: Id) -> bool
+    fn has(&self, id: Id) -> bool
         ensures { result ≡ is_in self.now id }
     {
         self.as_slice().iter().any(|other| *other == id)
     }
 
+    /// Whether it is there. Nobody is whom the side doesn't reach, so it is not sought there.
+    pub(crate) fn holds(&self, me: Id, direction: Direction, id: Id) -> bool
+        requires { Rises (far me direction) self.now }
+        ensures { result ≡ is_in self.now id }
+    {
+        self.reaches(me, direction, id) && self.has(id)
+    }
+
     /// Whether there are fewer than [`LEAVES_PER_SIDE`], or the key is no farther than the last.
     pub(crate) fn reaches(&self, me: Id, direction: Direction, key: Id) -> bool
-        ensures { result ≡ reaches_of me direction self.now key }
+        ensures limit { length self.now ≤ LEAVES_PER_SIDE }
+        ensures reaches { result ≡ reaches_of me direction self.now key }
     {
         let ids = self.as_slice();
         ids.len() < LEAVES_PER_SIDE
             || distance(me, direction, key) <= distance(me, direction, ids[LEAVES_PER_SIDE - 1])
     }
 
-    /// The one nearest to the key.
-    pub(crate) fn nearest(&self, key: Id) -> Option<Id>
+    /// The one nearest to the key: one of the two between which the key lies.
+    pub(crate) fn nearest(&self, me: Id, direction: Direction, key: Id) -> Option<Id>
+        requires rises { Rises (far me direction) self.now }
+        requires in_ring { All (λ z. z < 2 ^ 128) self.now }
         ensures { MatchOption result (self.now ≡ []) (λ y. IsClosest (Contains self.now) key y) }
     {
-        let mut best = None;
-        for id in self.as_slice() {
-            best = nearer_of(best, Some(*id), key);
+        let ids = self.as_slice();
+        if ids.is_empty() {
+            return None;
         }
-        best
+        let place = self.place_of(me, direction, key);
+        let before = ids[place_before(place, ids.len())];
+        let from = ids[place_from(place, ids.len())];
+        nearer_of(Some(before), Some(from), key)
     }
 
     /// Of those that share at least so many digits with the key and are nearer to it than another, the nearest.
@@ -124,7 +158,7 @@ impl Side {
     }
 
     /// Appends the identifiers, the nearest first.
-    pub(crate) fn copy_to(&self, out: &mut Ids)
+    pub(crate) fn copy_to(&self, out: &mut IdsBuilder)
         requires { length out.old ≤ 1 }
         ensures limit { length self.now ≤ LEAVES_PER_SIDE }
         ensures copied { out.new ≡ out.old ++ self.now }
@@ -134,27 +168,35 @@ impl Side {
         }
     }
 
-    /// How many of these are not in another side.
-    pub(crate) fn count_besides(&self, other: &Side) -> usize
+    /// How many of these are not in another side, which goes that way.
+    pub(crate) fn count_besides(&self, other: &Side, me: Id, direction: Direction) -> usize
+        requires { Rises (far me direction) other.now }
         ensures limit { result ≤ LEAVES_PER_SIDE }
         ensures value { result ≡ length (filter (λ y. not (is_in other.now y)) self.now) }
     {
         let mut count = 0;
         for id in self.as_slice() {
-            if !other.has(*id) {
+            if !other.holds(me, direction, *id) {
                 count += 1;
             }
         }
         count
     }
 
-    /// Appends those that are not in another side, the nearest first.
-    pub(crate) fn copy_besides(&self, other: &Side, out: &mut Ids)
-        requires { length out.old ≤ LEAVES_PER_SIDE + 1 }
+    /// Appends those that are not in another side, which goes that way, the nearest first.
+    pub(crate) fn copy_besides(
+        &self,
+        other: &Side,
+        me: Id,
+        direction: Direction,
+        out: &mut IdsBuilder,
+    )
+        requires room { length out.old ≤ LEAVES_PER_SIDE + 1 }
+        requires rises { Rises (far me direction) other.now }
         ensures { out.new ≡ out.old ++ filter (λ y. not (is_in other.now y)) self.now }
     {
         for id in self.as_slice() {
-            if !other.has(*id) {
+            if !other.holds(me, direction, *id) {
                 append(out, *id);
             }
         }

@@ -1,5 +1,4 @@
 use super::*;
-use std::test::Fail;
 
 /// A node close behind zero, so that its left side lies across it.
 const ME: Id = Id(5);
@@ -54,7 +53,7 @@ fn range_and_those_that_left(rt: HostRuntime) {
 
 /// In a small ring each node stands on both sides, and is said once.
 #[test]
-fn leaf_order_of_a_small_ring(rt: HostRuntime) -> Result<(), Fail> {
+fn leaf_order_of_a_small_ring(rt: HostRuntime) {
     let mut leafs = LeafSet::new(ME);
     assert_eq!(rt; leafs.nearest(ME), None);
     assert!(rt; leafs.learn(before(1)));
@@ -63,7 +62,7 @@ fn leaf_order_of_a_small_ring(rt: HostRuntime) -> Result<(), Fail> {
     assert_eq!(rt; leafs.count(), 3);
     assert_eq!(rt; leafs.left(0), Some(before(1)));
     assert_eq!(rt; leafs.left(1), Some(after(7)));
-    let mut out = Ids::with_room(rt.alloc())?;
+    let mut out = IdsBuilder::new();
     assert!(rt; out.push(ME));
     leafs.copy_to(&mut out);
     let order = [ME, after(3), after(7), before(1)];
@@ -72,5 +71,4 @@ fn leaf_order_of_a_small_ring(rt: HostRuntime) -> Result<(), Fail> {
     assert_eq!(rt; leafs.nearest(after(6)), Some(after(7)));
     assert_eq!(rt; leafs.best(after(6), 0, after(7)), None);
     assert_eq!(rt; leafs.best(after(6), 0, ME), Some(after(7)));
-    Ok(())
 }

@@ -14,8 +14,8 @@ use Rattle.node_core.specs.declared.input.Input.{Input as CodeInput}
 use Rattle.node_core.specs.declared.input.Input.TheVariants as code
 
 abbrev pub plain_input : CodeInput → Input
-plain_input (code.Command n c) = Command n c
-plain_input (code.Message from m) = Comes from (plain m)
+plain_input (code.Command n c) = Command n c.now
+plain_input (code.Message from m) = Comes from (plain m.now)
 plain_input code.Noise = Noise
 
 abbrev pub IsId : Id → Type 0

@@ -155,7 +155,7 @@ fn on_command(
 }
 
 /// What the step at this input sends, notes and changes. Nothing changes yet.
-pub(crate) fn plan(node: &Node, alloc: Global, input: &Input) -> Result<Prepared, OutOfMemory>
+pub(crate) fn plan(node: &Node, alloc: Global, input: &Input<'_>) -> Result<Prepared, OutOfMemory>
     ensures { (known : List ℕ) → Shows node.now known →
         IfOk result (λ p. Plans (seen node.now known) p (step_of (seen node.now known) (plain_input input.now))) }
 {

@@ -43,7 +43,7 @@ fn command_law(command: &Command)
 
 /// The sender of a message is an identifier, what the message teaches are such, and an insert asks for no more copies than
 /// there can be.
-pub(crate) fn input_law(input: &Input)
+pub(crate) fn input_law(input: &Input<'_>)
     ensures { InputIsInRange (plain_input input.now) }
 {
     match input {

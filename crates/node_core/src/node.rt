@@ -57,7 +57,7 @@ impl Node {
         Ok(Node { parts })
     }
 
-    /// The same node in memory of its own.
+    /// The same node, of its own but for the bytes of files, which are shared.
     pub fn copy(&self, alloc: Global) -> Result<Node, OutOfMemory>
         ensures { IfOk result (λ copy. (s : State) → Stands self.now s → Stands copy s) }
     {
@@ -102,7 +102,7 @@ impl Node {
 
     /// All of a step that can be refused: what it sends, what it notes, what it changes, and room for the change. The node
     /// stands for what it stood for, whatever the answer.
-    pub fn prepare(&mut self, alloc: Global, input: &Input) -> Result<Prepared, OutOfMemory>
+    pub fn prepare(&mut self, alloc: Global, input: &Input<'_>) -> Result<Prepared, OutOfMemory>
         ensures me { self.new.me ≡ self.old.me }
         ensures stands { (s : State) → Stands self.old s → Stands self.new s }
         ensures fits { IfOk result (λ p. Fits self.new p.change) }
@@ -129,7 +129,7 @@ impl Node {
 
     /// One step. For each state that the node stood for it stands afterwards for the state of the rules' step, and the
     /// output is that step's messages and notes. After `OutOfMemory` it stands for what it stood for.
-    pub fn step(&mut self, alloc: Global, input: &Input) -> Result<Output, OutOfMemory>
+    pub fn step(&mut self, alloc: Global, input: &Input<'_>) -> Result<Output, OutOfMemory>
         ensures me { self.new.me ≡ self.old.me }
         ensures ok { (s : State) → Stands self.old s → IfOk result (λ out. Stepped self.new out (step_of s (plain_input input.now))) }
         ensures err { OnErr result ((s : State) → Stands self.old s → Stands self.new s) }

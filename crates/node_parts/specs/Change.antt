@@ -50,7 +50,7 @@ set_in files file slot = if has_entry files file || has_room files then with_slo
 abbrev pub files_after : StoreChange → List Held → List Held
 files_after store.Keep files = files
 files_after (store.Set file slot) files = set_in files file slot
-files_after (store.Bury tombs) files = buried_all files tombs.files
+files_after (store.Bury tombs) files = buried_all files tombs
 
 abbrev pub pending_after : PastChange → List Pending → List Pending
 pending_after past.Keep ps = ps

@@ -18,7 +18,7 @@ use Rattle.node_parts.specs.declared.node.Node.{Node}
 abbrev pub StoreFits : Store → StoreChange → Type 0
 StoreFits s store.Keep = Unit {0}
 StoreFits s (store.Set file slot) = min (length s.files + 1) MOST_ENTRIES ≤ s.room
-StoreFits s (store.Bury tombs) = length (buried_all s.files tombs.files) ≤ s.room
+StoreFits s (store.Bury tombs) = length (buried_all s.files tombs) ≤ s.room
 
 -- how many inserts more may wait
 abbrev pub asks_more : PastChange → ℕ

@@ -19,7 +19,7 @@ use coverage::{Hop, Reach};
 use leaf_set::LeafSet;
 use lookup_core::next_hop;
 use overlay_rules::Way;
-use ring_math::{FileId, Id, Ids, OutOfMemory};
+use ring_math::{FileId, Id, Ids, IdsBuilder, OutOfMemory};
 use std::alloc::Global;
 
 fn way_by(hop: Hop) -> Way
@@ -111,10 +111,10 @@ impl Node {
     pub fn members(&self, alloc: Global) -> Result<Ids, OutOfMemory>
         ensures { (known : List ℕ) → Shows self.now known → IfOk result (λ ids. ids ≡ members (seen self.now known)) }
     {
-        let mut ids = Ids::with_room(alloc)?;
+        let mut ids = IdsBuilder::new();
         ids.push(self.me);
         self.known.leafs().copy_to(&mut ids);
-        Ok(ids)
+        ids.finish(alloc)
     }
 }
 
@@ -134,9 +134,9 @@ fn learnt(leafs: &LeafSet, ids: &[Id]) -> LeafSet
 pub fn leaves_of(alloc: Global, leafs: &LeafSet) -> Result<Ids, OutOfMemory>
     ensures { (known : List ℕ) → StandsFor leafs.now known → IfOk result (λ ids. ids ≡ leaves leafs.now.me known) }
 {
-    let mut ids = Ids::with_room(alloc)?;
+    let mut ids = IdsBuilder::new();
     leafs.copy_to(&mut ids);
-    Ok(ids)
+    ids.finish(alloc)
 }
 
 /// The first on the left; the node itself where it knows nobody.

@@ -1,4 +1,5 @@
 pub mod Each
+pub mod Cut
 pub mod Histories
 pub mod OneMore
 pub mod Seat

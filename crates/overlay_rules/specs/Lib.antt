@@ -9,6 +9,8 @@ pub mod Gates
 pub mod Gatekeeper
 pub mod Step
 pub mod Record
+pub mod Flat
+pub mod Seen
 pub mod Played
 pub mod Ready
 pub mod Table

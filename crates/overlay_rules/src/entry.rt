@@ -1,13 +1,17 @@
 //! Histories of all nodes together.
 
-ghost use Rattle.std.specs.Prelude.{◌≡◌, ◌++◌, ◌∷◌, [], All, OnOk, OnErr};
-ghost use Rattle.overlay_rules.specs.Record.{IsSaidBy};
+ghost use Rattle.std.specs.Prelude.{◌≡◌, ◌<◌, ◌+◌, ◌++◌, ◌∷◌, [], All, OnOk, OnErr, Some, length, map, slice_get};
+ghost use Rattle.wire_msg.specs.Words.{plain_envelope};
+ghost use Rattle.overlay_rules.specs.Record.{IsSaidBy, enveloped, sent_in};
+ghost use Rattle.overlay_rules.specs.Seen.{entry_seen, event_seen};
+ghost use Rattle.overlay_rules.specs.Table.{notes_in};
 
+use crate::flat::{CompactEvent, Lists, move_all, send_all};
 use crate::laws::command_law;
 use ring_math::{Id, OutOfMemory};
 use std::alloc::Global;
 use std::marker::Model;
-use wire_msg::{Command, Envelopes, Notes};
+use wire_msg::{Command, Envelope, Envelopes, Note, Notes, Sends};
 
 /// What happened.
 #[derive(Drop)]
@@ -37,6 +41,24 @@ pub struct Entry {
 }
 
 impl Event {
+    pub(crate) fn seen(&self) -> EventRef<'_>
+        ensures { event_seen result ≡ self.now }
+    {
+        match self {
+            Event::Command {
+                node,
+                number,
+                command,
+            } => EventRef::Command {
+                node: *node,
+                number: *number,
+                command,
+            },
+            Event::Deliver { message } => EventRef::Deliver { message: *message },
+            Event::Noise { node } => EventRef::Noise { node: *node },
+        }
+    }
+
     /// What the event's command says, it can say: a law, which does nothing.
     pub fn said_law(&self)
         ensures { IsSaidBy self.now }
@@ -47,22 +69,46 @@ impl Event {
     }
 }
 
+/// An event of a record, as it is read there.
+#[derive(Clone, Copy)]
+pub enum EventRef<'a> {
+    Command {
+        node: Id,
+        number: u64,
+        command: &'a Command,
+    },
+    Deliver {
+        message: u64,
+    },
+    Noise {
+        node: Id,
+    },
+}
+
+/// An entry of a record, as it is read there.
+#[derive(Clone, Copy)]
+pub struct EntryRef<'a> {
+    pub event: EventRef<'a>,
+    pub messages: &'a [Envelope],
+    pub notes: &'a [Note],
+}
+
 /// Entries in the order in which they happened.
 #[derive(Drop)]
 pub struct Entries {
-    items: Vec<Entry>,
+    lists: Lists,
 }
 
 impl Model for Entries {
-    ghost use Rattle.std.specs.Prelude.{List, All};
+    ghost use Rattle.std.specs.Prelude.{List};
     ghost use Rattle.overlay_rules.specs.declared.entry.Entry.{Entry};
-    ghost use Rattle.overlay_rules.specs.Record.{IsSaidBy};
+    ghost use Rattle.overlay_rules.specs.Flat.{CutsWell, cut};
 
     ghost Value = { List Entry };
 
-    ghost view = { λ a. a.items.items };
+    ghost view = { λ a. cut a.lists };
 
-    ghost invariant = { λ a. All (λ e. IsSaidBy e.event) a.items.items };
+    ghost invariant = { λ a. CutsWell a.lists };
 }
 
 impl Entries {
@@ -70,29 +116,99 @@ impl Entries {
         ensures { result ≡ [] }
     {
         Entries {
-            items: Vec::new(alloc),
+            lists: Lists {
+                entries: Vec::new(alloc),
+                sent: Vec::new(alloc),
+                notes: Vec::new(alloc),
+            },
         }
     }
 
-    pub fn as_slice(&self) -> &[Entry]
-        ensures { result.now ≡ self.now }
+    /// How many there are.
+    pub fn len(&self) -> usize
+        ensures { result ≡ length self.now }
     {
-        &self.items
+        self.lists.entries.len()
+    }
+
+    /// The stamp of the next entry's messages: its number, counted from 1.
+    pub fn next_stamp(&self) -> u64
+        ensures { result ≡ length self.now + 1 }
+    {
+        self.lists.entries.len() as u64 + 1
+    }
+
+    /// The entry at a place.
+    pub fn at(&self, place: usize) -> EntryRef<'_>
+        requires { place < length self.now }
+        ensures { slice_get self.now place ≡ Some (entry_seen result) }
+    {
+        self.lists.at(place)
+    }
+
+    /// All that was sent, in order: message n stands at n.
+    pub fn sent(&self) -> &[Envelope]
+        ensures { map plain_envelope result.now ≡ sent_in self.now }
+    {
+        &self.lists.sent
+    }
+
+    /// All that was noted, in order.
+    pub fn notes(&self) -> &[Note]
+        ensures { result.now ≡ notes_in self.now }
+    {
+        &self.lists.notes
     }
 
     /// What the commands of a history say, they can say: a law, which does nothing.
     pub fn said_law(&self)
         ensures { All (λ e. IsSaidBy e.event) self.now }
     {
-        let _items = &self.items;
+        let _lists = &self.lists;
     }
 
+    /// One more entry: an event at a node, with what it sends, each message in an envelope with this stamp, and notes.
+    /// After `OutOfMemory` there is none more.
+    pub fn add(
+        &mut self,
+        event: Event,
+        stamp: u64,
+        sender: Id,
+        sends: Sends,
+        notes: Notes,
+    ) -> Result<(), OutOfMemory>
+        ensures ok { OnOk result (self.new ≡ self.old ++ record { event = event; messages = map (enveloped stamp sender) sends; notes = notes } ∷ []) }
+        ensures err { OnErr result (self.new ≡ self.old) }
+    {
+        event.said_law();
+        let event = CompactEvent::of(event, *self.lists.sent.allocator())?;
+        let messages = sends.into_items();
+        let notes = notes.into_items();
+        self.lists.reserve(messages.len(), notes.len())?;
+        send_all(&mut self.lists.sent, stamp, sender, messages);
+        move_all(&mut self.lists.notes, notes);
+        self.lists.close(event);
+        Ok(())
+    }
+
+    /// One more entry, as it is. After `OutOfMemory` there is none more.
     pub fn push(&mut self, item: Entry) -> Result<(), OutOfMemory>
         ensures ok { OnOk result (self.new ≡ self.old ++ item ∷ []) }
         ensures err { OnErr result (self.new ≡ self.old) }
     {
-        item.event.said_law();
-        self.items.push(item)?;
+        let Entry {
+            event,
+            messages,
+            notes,
+        } = item;
+        event.said_law();
+        let event = CompactEvent::of(event, *self.lists.sent.allocator())?;
+        let messages = messages.into_items();
+        let notes = notes.into_items();
+        self.lists.reserve(messages.len(), notes.len())?;
+        move_all(&mut self.lists.sent, messages);
+        move_all(&mut self.lists.notes, notes);
+        self.lists.close(event);
         Ok(())
     }
 }

@@ -3,11 +3,12 @@
 #![tactic(auto)]
 
 mod entry;
+mod flat;
 mod gate;
 mod laws;
 mod request;
 
-pub use entry::{Entries, Entry, Event, Record};
+pub use entry::{Entries, Entry, EntryRef, Event, EventRef, Record};
 pub use gate::{Gate, Verdict};
 pub use laws::command_law;
 pub use request::{Asked, Pending, Way};

@@ -6,7 +6,7 @@ ghost use Rattle.overlay_rules.specs.Replicas.{awaits, on_replica_ack};
 ghost use Rattle.past_core.specs.Acks.{acked, IsWithin, ack_outcome};
 
 use crate::past::Past;
-use ring_math::{FileId, Id, Ids, OutOfMemory};
+use ring_math::{FileId, Id, Ids, IdsBuilder, OutOfMemory};
 use std::alloc::Global;
 
 /// What an acknowledgement is for.
@@ -21,16 +21,16 @@ pub enum Ack {
 }
 
 /// Those that are not this node, in order.
-fn all_but(alloc: Global, ids: &Ids, id: Id) -> Result<Ids, OutOfMemory>
-    ensures { IfOk result (λ others. others ≡ filter (λ y. not (y == id)) ids.now) }
+fn all_but(ids: &Ids, id: Id) -> IdsBuilder
+    ensures { result ≡ filter (λ y. not (y == id)) ids.now }
 {
-    let mut others = Ids::with_room(alloc)?;
+    let mut others = IdsBuilder::new();
     for other in ids.as_slice() {
         if *other != id {
             others.push(*other);
         }
     }
-    Ok(others)
+    others
 }
 
 impl Past {
@@ -51,12 +51,12 @@ impl Past {
         let Some(place) = self.ack_place(sender, origin, number, file) else {
             return Ok(Ack::Unknown);
         };
-        let awaited = all_but(alloc, &self.as_slice()[place].awaited, sender)?;
+        let awaited = all_but(&self.as_slice()[place].awaited, sender);
         if awaited.as_slice().is_empty() {
-            Ok(Ack::Last { place })
-        } else {
-            Ok(Ack::Heard { place, awaited })
+            return Ok(Ack::Last { place });
         }
+        let awaited = awaited.finish(alloc)?;
+        Ok(Ack::Heard { place, awaited })
     }
 
     /// Notes that the sender holds a replica for this command's insert of this file. It answers the nodes that hold one

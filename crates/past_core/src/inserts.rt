@@ -1,6 +1,6 @@
 //! Inserts at the root of their file.
 
-ghost use Rattle.std.specs.Prelude.{◌≡◌, ◌-◌, ℕ, true, IfOk, OnOk, OnErr, length};
+ghost use Rattle.std.specs.Prelude.{◌≡◌, ◌-◌, ◌∷◌, [], ℕ, true, IfOk, OnOk, OnErr, length};
 ghost use Rattle.ring_math.specs.Files.{slot_of};
 ghost use Rattle.leaf_set.specs.Leaves.{StandsFor, in_order};
 ghost use Rattle.file_store.specs.Answers.{put_of};
@@ -14,7 +14,7 @@ use crate::past::Past;
 use file_store::{FileStore, Put};
 use leaf_set::LeafSet;
 use overlay_rules::Pending;
-use ring_math::{Bytes, FileId, Id, Ids, OutOfMemory};
+use ring_math::{Bytes, FileId, Id, Ids, IdsBuilder, OutOfMemory};
 use std::alloc::Global;
 use wire_msg::Copies;
 
@@ -128,13 +128,21 @@ fn replicated(
 {
     let targets = targets_of(alloc, leafs, file, copies)?;
     let what = if targets.as_slice().is_empty() {
-        let mut holders = targets;
-        holders.push(leafs.me());
+        let holders = alone(alloc, leafs.me())?;
         InsertWhat::Stored { holders }
     } else {
         InsertWhat::Replicate { targets }
     };
     Ok(InsertStep { accepted, what })
+}
+
+/// The list of one node.
+fn alone(alloc: Global, node: Id) -> Result<Ids, OutOfMemory>
+    ensures { IfOk result (λ ids. ids ≡ node ∷ []) }
+{
+    let mut ids = IdsBuilder::new();
+    ids.push(node);
+    ids.finish(alloc)
 }
 
 impl Past {

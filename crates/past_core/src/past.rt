@@ -160,7 +160,7 @@ impl Past {
         Ok(asks)
     }
 
-    /// The same inserts in memory of their own.
+    /// The same inserts, which share their lists with these.
     pub fn copy(&self, alloc: Global) -> Result<Past, OutOfMemory>
         ensures { IfOk result (λ copy. copy.asks ≡ self.now.asks) }
     {

@@ -21,9 +21,9 @@ use outside::{FromReader, ToWriter};
 use progress::Progress;
 use schedule::make_scenario;
 use std::alloc::Global;
-use std::io;
 use std::process::ExitCode;
 use std::rc::RcStr;
+use std::{io, mem};
 use telling::{
     tell_memory, tell_refused_words, tell_scenario_fault, tell_system_fault, tell_unreadable_words,
 };
@@ -116,5 +116,8 @@ fn main(rt: HostRuntime) -> ExitCode {
         };
         tell(&rt, fault, &met);
     }
-    ExitCode::from(outcome.status)
+    let status = outcome.status;
+    // The system takes back all memory at once; a long record would give it back entry by entry.
+    mem::forget(outcome);
+    ExitCode::from(status)
 }

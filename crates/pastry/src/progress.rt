@@ -134,16 +134,16 @@ impl Progress<'_> {
 
 /// The most turns that a play of a scenario has: a settle ends early if no message is left.
 fn most_turns(scenario: &Scenario) -> u64 {
-    let others = scenario.actions().iter().filter(|action| is_one_turn(action));
+    let others = scenario
+        .actions()
+        .iter()
+        .filter(|action| is_one_turn(action));
     u64::from(scenario.tally().deliveries).saturating_add(others.count() as u64)
 }
 
 /// Whether an action is one turn and no delivery: a command or noise.
 fn is_one_turn(action: &Action) -> bool {
-    matches!(
-        &action.what,
-        What::Command { .. } | What::Noise { .. }
-    )
+    matches!(&action.what, What::Command { .. } | What::Noise { .. })
 }
 
 impl Turnstile for Progress<'_> {

@@ -79,6 +79,12 @@ not_whole s a spot t rules h next some all =
     let entries = ap (λ (es : List Entry). length es) (past_of a.recorded ∙ all.entries) in
     let skips = all.skips in absurd (omega arith)
 
+-- where a turn is left, made or refused, the record is not complete
+pub not_complete : (s : PlainScenario) (a : Progress) (spot : Spot) (t : Turn) → KeepsRules s → Plays s a → IsNext s a spot t → is_some t ≡ true →
+    IsWhole s a.recorded.entries a.skipped → ⊥
+not_complete s a spot t rules h next some =
+    not_whole s a spot t rules h next (not_ends s.actions t (next_turn s a).step some next.step)
+
 -- ---- a turn that was made
 
 -- what was made of a turn among these actions, in the words of its step
@@ -127,7 +133,7 @@ goes s a b spot t actions rules listed h next made some =
       plays = after;
       so_far = begins s (advanced s a spot) after;
       turn = takes_turn s a spot t next left;
-      not_whole = not_whole s a spot t rules h next left;
+      not_whole = not_complete s a spot t rules h next some;
     })
 
 -- ---- a whole play

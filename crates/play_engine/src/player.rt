@@ -1,6 +1,6 @@
 //! A scenario that is played one turn after another.
 
-ghost use Rattle.std.specs.Prelude.{◌≡◌, ◌↔◌, false, Some, IfOk, OnOk, OnErr, MatchBool};
+ghost use Rattle.std.specs.Prelude.{◌≡◌, ◌↔◌, false, true, Some, IfOk, OnOk, OnErr, MatchBool};
 ghost use Rattle.overlay_rules.specs.declared.entry.Event.{Event};
 ghost use Rattle.overlay_rules.specs.Record.{IsRecord, IsSetting};
 ghost use Rattle.scenario_reader.specs.Plain.{ids};
@@ -16,16 +16,18 @@ ghost use Rattle.play_engine.specs.Progress.{IsWhole, Plays, play_in, progress_a
 use overlay_rules::Record;
 use ring_math::{Id, OutOfMemory};
 use scenario_reader::{Action, NodeLine, Scenario, What};
-use schedule::{Cursor, Turn};
+use schedule::{Cursor, ShuffleWords, Turn};
 use std::alloc::Global;
 use std::marker::Model;
 use world_model::World;
 
-/// A scenario that is being played: the world so far, and how far its schedule has come.
+/// A scenario that is being played: the world so far, and how far its schedule has come. The words of shuffles are kept
+/// beside that, only so that none is made twice.
 #[derive(Drop)]
 pub struct Player {
     world: World,
     cursor: Cursor,
+    words: ShuffleWords,
     skipped: u64,
 }
 
@@ -47,13 +49,14 @@ impl Player {
         Ok(Player {
             world: World::new(alloc, &nodes, scenario.founder())?,
             cursor: Cursor::new(),
+            words: ShuffleWords::new(),
             skipped: 0,
         })
     }
 
     /// Adds the next entry or skip of the played record. The answer is false, with nothing changed, exactly where that
-    /// record is complete. The scenario is the one that the player was made with. After `OutOfMemory` the player is as
-    /// before, so the caller may call again.
+    /// record is complete. The scenario is the one that the player was made with. After `OutOfMemory` the record is not
+    /// complete and the player is as before, so the caller may call again.
     pub fn advance(&mut self, alloc: Global, scenario: &Scenario) -> Result<bool, OutOfMemory>
         requires plays { Plays scenario.now self.old }
         ensures plays { Plays scenario.now self.new }
@@ -61,9 +64,10 @@ impl Player {
         ensures turn { IfOk result (λ more. MatchBool more (TakesTurn scenario.now self.old self.new) (self.new ≡ self.old)) }
         ensures exactly { IfOk result (λ more. (more ≡ false) ↔ IsWhole scenario.now self.old.recorded.entries self.old.skipped) }
         ensures err { OnErr result (self.new ≡ self.old) }
+        ensures refused { OnErr result (IsWhole scenario.now self.old.recorded.entries self.old.skipped → ⊥) }
     {
         let actions = scenario.actions();
-        let mut cursor = self.spot();
+        let mut cursor = self.cursor.copy();
         let turn = self.next(&mut cursor, scenario);
         if !self.make(alloc, actions, turn)? {
             return Ok(false);
@@ -88,22 +92,17 @@ impl Player {
         self.world.finish(self.skipped)
     }
 
-    /// A cursor of its own at this place. The player's goes on only once the turn was made, since that may be refused.
-    fn spot(&self) -> Cursor
-        ensures { result ≡ self.now.spot }
-    {
-        self.cursor.copy()
-    }
-
-    /// The next turn at the player's place. The cursor stands behind it afterwards.
-    fn next(&self, cursor: &mut Cursor, scenario: &Scenario) -> Turn
-        requires plays { Plays scenario.now self.now }
-        requires at { cursor.old ≡ self.now.spot }
-        ensures { IsNext scenario.now self.now cursor.new result }
+    /// The next turn at the player's place. This cursor stands behind it afterwards; the player's goes on only once the turn
+    /// was made, since that may be refused.
+    fn next(&mut self, cursor: &mut Cursor, scenario: &Scenario) -> Turn
+        requires plays { Plays scenario.now self.old }
+        requires at { cursor.old ≡ self.old.spot }
+        ensures next { IsNext scenario.now self.old cursor.new result }
+        ensures same { self.new ≡ self.old }
     {
         let sent = self.world.sent_len();
         let oldest = self.world.oldest_undelivered();
-        cursor.next(scenario, sent, oldest)
+        cursor.next(scenario, &mut self.words, sent, oldest)
     }
 
     /// Makes a turn of these actions, unless it says that none is left.
@@ -112,6 +111,7 @@ impl Player {
         ensures answer { IfOk result (λ more. more ≡ is_some turn) }
         ensures made { OnOk result ((step : Step) → step_of actions.now turn ≡ Some step → self.new ≡ progress_after step self.old) }
         ensures err { OnErr result (self.new ≡ self.old) }
+        ensures refused { OnErr result (is_some turn ≡ true) }
     {
         match turn {
             Turn::Action(place) => {

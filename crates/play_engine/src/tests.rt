@@ -11,7 +11,7 @@ fn plays_two_joins(rt: HostRuntime) -> Result<(), Fail> {
         b"node A 10000000000000000000000000000000\nnode B 90000000000000000000000000000000\nnode C 30000000000000000000000000000000\nfirst A\njoin B A\nsettle 20\njoin C B\nsettle 40\n";
     let scenario = read_scenario(rt.alloc(), input)?;
     let steps = play(rt.alloc(), &scenario)?;
-    assert_eq!(rt; steps.entries.as_slice().len(), 25);
+    assert_eq!(rt; steps.entries.len(), 25);
     assert_eq!(rt; steps.skipped, 0);
     Ok(())
 }
@@ -23,7 +23,7 @@ fn skips_an_unsent_message(rt: HostRuntime) -> Result<(), Fail> {
         b"node A 10000000000000000000000000000000\nnode B 30000000000000000000000000000000\nfirst A\njoin B A\nsettle 20\ndeliver 99\n";
     let scenario = read_scenario(rt.alloc(), input)?;
     let steps = play(rt.alloc(), &scenario)?;
-    assert_eq!(rt; steps.entries.as_slice().len(), 9);
+    assert_eq!(rt; steps.entries.len(), 9);
     assert_eq!(rt; steps.skipped, 1);
     Ok(())
 }
@@ -35,9 +35,9 @@ fn advances_by_turns(rt: HostRuntime) -> Result<(), Fail> {
     let scenario = read_scenario(rt.alloc(), input)?;
     let mut player = Player::new(rt.alloc(), &scenario)?;
     assert!(rt; player.advance(rt.alloc(), &scenario)?);
-    assert_eq!(rt; player.world().entries().as_slice().len(), 0);
+    assert_eq!(rt; player.world().entries().len(), 0);
     assert!(rt; player.advance(rt.alloc(), &scenario)?);
-    assert_eq!(rt; player.world().entries().as_slice().len(), 1);
+    assert_eq!(rt; player.world().entries().len(), 1);
     assert!(rt; !player.advance(rt.alloc(), &scenario)?);
     assert_eq!(rt; player.finish().skipped, 1);
     Ok(())

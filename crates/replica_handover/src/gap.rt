@@ -1,12 +1,11 @@
 //! The lists of a gap.
 
-ghost use Rattle.std.specs.Prelude.{◌≡◌, ◌≤◌, ◌&&◌, IfOk, length, is_some, is_none};
-ghost use Rattle.ring_math.specs.declared.limits.TheConstants.{MOST_ENTRIES};
+ghost use Rattle.std.specs.Prelude.{◌≡◌, ◌&&◌, IfOk, is_some, is_none};
 ghost use Rattle.coverage.specs.GapFiles.{files_in_gap, tombs_in_gap, is_in_gap};
 
 use coverage::{Reach, is_in_gap};
 use file_store::FileStore;
-use ring_math::{FileId, FileIds, Held, Id, OutOfMemory, key_of};
+use ring_math::{FileIds, Held, Id, OutOfMemory, key_of};
 use std::alloc::Global;
 
 /// The files with bytes whose key is in the gap of the joiner, by rising file identifier.
@@ -16,16 +15,16 @@ pub fn in_gap(
     reach: &Reach,
     joiner: Id,
 ) -> Result<FileIds, OutOfMemory>
-    ensures { IfOk result (λ list. list.files ≡ files_in_gap reach.now joiner store.now.files) }
+    ensures { IfOk result (λ list. list ≡ files_in_gap reach.now joiner store.now.files) }
 {
-    let mut found = FileIds::with_room(alloc, store.entries())?;
+    let mut found = Vec::new(alloc);
     for place in 0..store.entries() {
         let held = store.at(place);
         if is_file_of(held, reach, joiner) {
-            found.push(held.file);
+            found.push(held.file)?;
         }
     }
-    fitted(alloc, found.as_slice())
+    FileIds::copy_of(alloc, &found)
 }
 
 /// The tombstones whose key is in the gap of the joiner, by rising file identifier.
@@ -35,16 +34,16 @@ pub fn tombs_in_gap(
     reach: &Reach,
     joiner: Id,
 ) -> Result<FileIds, OutOfMemory>
-    ensures { IfOk result (λ list. list.files ≡ tombs_in_gap reach.now joiner store.now.files) }
+    ensures { IfOk result (λ list. list ≡ tombs_in_gap reach.now joiner store.now.files) }
 {
-    let mut found = FileIds::with_room(alloc, store.entries())?;
+    let mut found = Vec::new(alloc);
     for place in 0..store.entries() {
         let held = store.at(place);
         if is_tomb_of(held, reach, joiner) {
-            found.push(held.file);
+            found.push(held.file)?;
         }
     }
-    fitted(alloc, found.as_slice())
+    FileIds::copy_of(alloc, &found)
 }
 
 /// Whether bytes stand, and the key is in the gap.
@@ -59,16 +58,4 @@ fn is_tomb_of(held: &Held, reach: &Reach, joiner: Id) -> bool
     ensures { result ≡ (is_none held.now.slot && is_in_gap reach.now joiner held.now) }
 {
     held.slot.is_none() && is_in_gap(reach, joiner, key_of(&held.file))
-}
-
-/// These files with room for no more, since a gate keeps its lists for as long as it stands.
-fn fitted(alloc: Global, files: &[FileId]) -> Result<FileIds, OutOfMemory>
-    requires { length files.now ≤ MOST_ENTRIES }
-    ensures { IfOk result (λ list. list.files ≡ files.now) }
-{
-    let mut list = FileIds::with_room(alloc, files.len())?;
-    for file in files {
-        list.push(*file);
-    }
-    Ok(list)
 }

@@ -20,31 +20,31 @@ impl Model for Pledge {
 
     ghost Value = { Lists };
 
-    ghost view = { λ a. record { manifest = a.manifest.files; tombs = a.tombs.files } };
+    ghost view = { λ a. record { manifest = a.manifest; tombs = a.tombs } };
 }
 
 impl Pledge {
     pub fn new(manifest: FileIds, tombs: FileIds) -> Pledge
-        ensures { result ≡ record { manifest = manifest.files; tombs = tombs.files } }
+        ensures { result ≡ record { manifest = manifest; tombs = tombs } }
     {
         Pledge { manifest, tombs }
     }
 
     /// The files with bytes.
     pub fn manifest(&self) -> &FileIds
-        ensures { result.now.files ≡ self.now.manifest }
+        ensures { result.now ≡ self.now.manifest }
     {
         &self.manifest
     }
 
     /// The tombstones.
     pub fn tombs(&self) -> &FileIds
-        ensures { result.now.files ≡ self.now.tombs }
+        ensures { result.now ≡ self.now.tombs }
     {
         &self.tombs
     }
 
-    /// The same lists in memory of their own.
+    /// The same lists, shared.
     pub fn copy(&self, alloc: Global) -> Result<Pledge, OutOfMemory>
         ensures { IfOk result (λ copy. copy ≡ self.now) }
     {
@@ -89,7 +89,7 @@ impl Taking {
 
     /// Keeps the lists of the left side, unless it has some. It takes no memory.
     pub fn expect_left(&mut self, manifest: FileIds, tombs: FileIds)
-        ensures { self.new ≡ record self.old { left = kept self.old.left (record { manifest = manifest.files; tombs = tombs.files }) } }
+        ensures { self.new ≡ record self.old { left = kept self.old.left (record { manifest = manifest; tombs = tombs }) } }
     {
         if self.left.is_none() {
             self.left = Some(Pledge { manifest, tombs });
@@ -98,7 +98,7 @@ impl Taking {
 
     /// Keeps the lists of the right side, unless it has some. It takes no memory.
     pub fn expect_right(&mut self, manifest: FileIds, tombs: FileIds)
-        ensures { self.new ≡ record self.old { right = kept self.old.right (record { manifest = manifest.files; tombs = tombs.files }) } }
+        ensures { self.new ≡ record self.old { right = kept self.old.right (record { manifest = manifest; tombs = tombs }) } }
     {
         if self.right.is_none() {
             self.right = Some(Pledge { manifest, tombs });
@@ -135,7 +135,7 @@ impl Taking {
         is_kept(&self.left, store) && is_kept(&self.right, store)
     }
 
-    /// The same pledges in memory of their own.
+    /// The same pledges, which share their lists.
     pub fn copy(&self, alloc: Global) -> Result<Taking, OutOfMemory>
         ensures { IfOk result (λ copy. copy ≡ self.now) }
     {

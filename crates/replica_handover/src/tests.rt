@@ -18,14 +18,14 @@ fn file(first: u8) -> FileId {
 }
 
 fn list(alloc: Global, firsts: &[u8]) -> Result<FileIds, Fail> {
-    if firsts.len() > 4096 {
+    let mut files = Vec::new(alloc);
+    for first in firsts {
+        files.push(file(*first))?;
+    }
+    if files.len() > 4096 {
         return Err(Fail::from("a list has at most 4,096 files"));
     }
-    let mut files = FileIds::with_room(alloc, firsts.len())?;
-    for first in firsts {
-        files.push(file(*first));
-    }
-    Ok(files)
+    Ok(FileIds::of(files)?)
 }
 
 /// Files with one byte, and tombstones.

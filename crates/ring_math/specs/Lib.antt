@@ -8,4 +8,3 @@ pub mod Keys
 pub mod Texts
 pub mod Sides
 pub mod Files
-pub mod Roomy

@@ -18,7 +18,7 @@ pub use direction::{Direction, distance};
 pub use file::{FileId, Held, file_id, key_of};
 pub use id::{Id, id_of_name};
 pub use limits::{DIGIT_VALUES, DIGITS, LEAVES_PER_SIDE, MOST_BYTES, MOST_ENTRIES, MOST_MEMBERS};
-pub use lists::{Bytes, BytesFault, FileIds, Ids};
+pub use lists::{Bytes, BytesFault, FileIds, Ids, IdsBuilder};
 pub use memory::OutOfMemory;
 pub use nearest::{improves, nearer_of};
 pub use text::{IdFault, id_from_hex, id_to_hex};

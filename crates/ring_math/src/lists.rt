@@ -1,6 +1,7 @@
-//! Lists with a limit: bytes of a file, identifiers and files that one message names.
+//! Lists with a limit: bytes of a file, identifiers and files that one message names. A list that is done is shared: a
+//! copy is one owner more of the same memory.
 
-ghost use Rattle.std.specs.Prelude.{◌≡◌, ◌<◌, ◌≤◌, ◌++◌, ◌∷◌, [], ◌↔◌, IsTrue, length, vec_len, vec_capacity, IfOk, IfErr, Err, All, Contains};
+ghost use Rattle.std.specs.Prelude.{◌≡◌, ◌<◌, ◌≤◌, ◌++◌, ◌∷◌, [], ◌↔◌, IsTrue, length, IfOk, IfErr, Err, All, Contains};
 ghost use Rattle.ring_math.specs.Members.{InRing};
 ghost use Rattle.std.specs.Bool.{OnTrue, OnFalse};
 
@@ -10,22 +11,24 @@ use crate::limits::{MOST_BYTES, MOST_ENTRIES, MOST_MEMBERS};
 use crate::memory::OutOfMemory;
 use std::alloc::{AllocError, Global};
 use std::marker::Model;
+use std::sync::{Arc, ArcSlice};
 
 /// The bytes of a file, at most [`MOST_BYTES`].
 #[derive(Drop)]
 pub struct Bytes {
-    items: Vec<u8>,
+    items: ArcSlice<u8>,
 }
 
 impl Model for Bytes {
     ghost use Rattle.std.specs.Prelude.{ℕ, List, length, ◌≤◌};
+    ghost use Rattle.std.specs.Arc.{arc_slice_items};
     ghost use Rattle.ring_math.specs.declared.limits.TheConstants.{MOST_BYTES};
 
     ghost Value = { List ℕ };
 
-    ghost view = { λ a. a.items.items };
+    ghost view = { λ a. arc_slice_items a.items };
 
-    ghost invariant = { λ a. length a.items.items ≤ MOST_BYTES };
+    ghost invariant = { λ a. length (arc_slice_items a.items) ≤ MOST_BYTES };
 }
 
 /// Each byte is below 256: a law, which does nothing.
@@ -63,8 +66,7 @@ impl Bytes {
         if bytes.len() > MOST_BYTES {
             return Err(BytesFault::TooLong { found: bytes.len() });
         }
-        let mut items = Vec::with_capacity(alloc, bytes.len())?;
-        items.extend_from_slice(bytes)?;
+        let items = ArcSlice::from_slice(alloc, bytes)?;
         Ok(Bytes { items })
     }
 
@@ -73,7 +75,7 @@ impl Bytes {
         ensures value { result.now ≡ self.now }
         ensures limit { length self.now ≤ MOST_BYTES }
     {
-        &self.items
+        self.items.as_slice()
     }
 
     /// A file has at most [`MOST_BYTES`] bytes: a law, which does nothing.
@@ -81,44 +83,46 @@ impl Bytes {
         ensures length { length self.now ≤ MOST_BYTES }
         ensures bytes { All (λ byte. byte < 256) self.now }
     {
-        bytes_law(&self.items);
+        bytes_law(self.items.as_slice());
     }
 
-    /// The same bytes in memory of their own.
-    pub fn copy(&self, alloc: Global) -> Result<Bytes, OutOfMemory>
+    /// The same bytes, shared.
+    pub fn copy(&self, _alloc: Global) -> Result<Bytes, OutOfMemory>
         ensures { IfOk result (λ bytes. bytes ≡ self.now) }
     {
-        let mut items = Vec::with_capacity(alloc, self.items.len())?;
-        items.extend_from_slice(self.items.as_slice())?;
+        let items = self.items.clone()?;
         Ok(Bytes { items })
     }
 }
 
-/// At most [`MOST_MEMBERS`] identifiers, in an order that means something.
+/// Identifiers while they are being listed, at most [`MOST_MEMBERS`]. It takes no memory until it is done.
 #[derive(Drop)]
-pub struct Ids {
-    items: Vec<Id>,
+pub struct IdsBuilder {
+    ids: [Id; MOST_MEMBERS],
+    len: usize,
 }
 
-impl Model for Ids {
-    ghost use Rattle.std.specs.Prelude.{ℕ, List, length, ◌≤◌, vec_capacity, Contains};
+impl Model for IdsBuilder {
+    ghost use Rattle.std.specs.Prelude.{ℕ, List, take, ◌≤◌, Contains};
     ghost use Rattle.ring_math.specs.Members.{InRing};
     ghost use Rattle.ring_math.specs.declared.limits.TheConstants.{MOST_MEMBERS};
 
     ghost Value = { List ℕ };
 
-    ghost view = { λ a. a.items.items };
+    ghost view = { λ a. take a.len a.ids };
 
-    ghost invariant = { λ a. (length a.items.items ≤ MOST_MEMBERS) × (MOST_MEMBERS ≤ vec_capacity a.items) × InRing (Contains a.items.items) };
+    ghost invariant = { λ a. (a.len ≤ MOST_MEMBERS) × InRing (Contains (take a.len a.ids)) };
 }
 
-impl Ids {
-    /// No identifier yet, and room for [`MOST_MEMBERS`].
-    pub fn with_room(alloc: Global) -> Result<Ids, OutOfMemory>
-        ensures { IfOk result (λ ids. ids ≡ []) }
+impl IdsBuilder {
+    /// No identifier yet.
+    pub fn new() -> IdsBuilder
+        ensures { result ≡ [] }
     {
-        let items = Vec::with_capacity(alloc, MOST_MEMBERS)?;
-        Ok(Ids { items })
+        IdsBuilder {
+            ids: [Id(0); MOST_MEMBERS],
+            len: 0,
+        }
     }
 
     /// Adds an identifier at the end. It takes no memory, and answers false, with nothing changed, exactly where [`MOST_MEMBERS`] are held.
@@ -127,10 +131,11 @@ impl Ids {
         ensures pushed { OnTrue result (self.new ≡ self.old ++ id ∷ []) }
         ensures full { OnFalse result (self.new ≡ self.old) }
     {
-        if self.items.len() == MOST_MEMBERS {
+        if self.len == MOST_MEMBERS {
             return false;
         }
-        append(&mut self.items, id);
+        self.ids[self.len] = id;
+        self.len += 1;
         true
     }
 
@@ -139,93 +144,115 @@ impl Ids {
         ensures value { result.now ≡ self.now }
         ensures limit { length self.now ≤ MOST_MEMBERS }
     {
-        &self.items
+        &self.ids[..self.len]
     }
 
     /// Each is below 2^128: a law, which does nothing, as that of one identifier.
     pub fn range_law(&self)
         ensures { InRing (Contains self.now) }
     {
-        let _items = &self.items;
+        let _len = self.len;
     }
 
-    /// The same identifiers in memory of their own, with room for [`MOST_MEMBERS`].
-    pub fn copy(&self, alloc: Global) -> Result<Ids, OutOfMemory>
+    /// The list that these make.
+    pub fn finish(self, alloc: Global) -> Result<Ids, OutOfMemory>
+        ensures { IfOk result (λ ids. ids ≡ self) }
+    {
+        let list = Arc::new(alloc, self)?;
+        Ok(Ids { list })
+    }
+}
+
+/// At most [`MOST_MEMBERS`] identifiers, in an order that means something.
+#[derive(Drop)]
+pub struct Ids {
+    list: Arc<IdsBuilder>,
+}
+
+impl Model for Ids {
+    ghost use Rattle.std.specs.Prelude.{ℕ, List};
+    ghost use Rattle.std.specs.Arc.{arc_value};
+
+    ghost Value = { List ℕ };
+
+    ghost view = { λ a. arc_value a.list };
+}
+
+impl Ids {
+    /// The identifiers, in the order in which they were added.
+    pub fn as_slice(&self) -> &[Id]
+        ensures value { result.now ≡ self.now }
+        ensures limit { length self.now ≤ MOST_MEMBERS }
+    {
+        self.list.as_slice()
+    }
+
+    /// Each is below 2^128: a law, which does nothing, as that of one identifier.
+    pub fn range_law(&self)
+        ensures { InRing (Contains self.now) }
+    {
+        self.list.range_law();
+    }
+
+    /// The same identifiers, shared.
+    pub fn copy(&self, _alloc: Global) -> Result<Ids, OutOfMemory>
         ensures { IfOk result (λ ids. ids ≡ self.now) }
     {
-        let mut items = Vec::with_capacity(alloc, MOST_MEMBERS)?;
-        items.extend_from_slice(self.items.as_slice())?;
-        Ok(Ids { items })
+        let list = self.list.clone()?;
+        Ok(Ids { list })
     }
 }
 
-/// Appends an identifier, into room that was taken.
-fn append(items: &mut Vec<Id>, id: Id)
-    requires { vec_len items.old < vec_capacity items.old }
-    ensures items { items.new.items ≡ items.old.items ++ id ∷ [] }
-    ensures room { vec_capacity items.old ≤ vec_capacity items.new }
-{
-    let _ = items.push(id);
-}
-
-/// Identifiers of files, in an order that means something, and the room that was taken for them.
+/// Identifiers of files, at most [`MOST_ENTRIES`], in an order that means something.
 #[derive(Drop)]
 pub struct FileIds {
-    items: Vec<FileId>,
-    room: usize,
+    items: ArcSlice<FileId>,
 }
 
 impl Model for FileIds {
-    ghost use Rattle.std.specs.Prelude.{length, ◌≤◌, vec_capacity};
-    ghost use Rattle.ring_math.specs.Roomy.{Roomy};
+    ghost use Rattle.std.specs.Prelude.{ℕ, List, length, ◌≤◌};
+    ghost use Rattle.std.specs.Arc.{arc_slice_items};
     ghost use Rattle.ring_math.specs.declared.limits.TheConstants.{MOST_ENTRIES};
 
-    ghost Value = { Roomy };
+    ghost Value = { List (List ℕ) };
 
-    ghost view = { λ a. record { files = a.items.items; room = a.room } };
+    ghost view = { λ a. arc_slice_items a.items };
 
-    ghost invariant = { λ a. (length a.items.items ≤ a.room) × (a.room ≤ MOST_ENTRIES) × (a.room ≤ vec_capacity a.items) };
+    ghost invariant = { λ a. length (arc_slice_items a.items) ≤ MOST_ENTRIES };
 }
 
 impl FileIds {
-    /// No file yet, and room for so many.
-    pub fn with_room(alloc: Global, room: usize) -> Result<FileIds, OutOfMemory>
-        requires { room ≤ MOST_ENTRIES }
-        ensures { IfOk result (λ ids. ids ≡ record { files = []; room = room }) }
+    /// These files, in this order.
+    pub fn of(files: Vec<FileId>) -> Result<FileIds, OutOfMemory>
+        requires { length files.items ≤ MOST_ENTRIES }
+        ensures { IfOk result (λ list. list ≡ files.items) }
     {
-        let items = Vec::with_capacity(alloc, room)?;
-        Ok(FileIds { items, room })
+        let items = ArcSlice::from_vec(files)?;
+        Ok(FileIds { items })
     }
 
-    /// Adds a file at the end. It takes no memory, and answers false, with nothing changed, exactly where the room is used.
-    pub fn push(&mut self, file: FileId) -> bool
-        ensures answer { IsTrue result ↔ (length self.old.files < self.old.room) }
-        ensures pushed { OnTrue result (self.new ≡ record self.old { files = self.old.files ++ file ∷ [] }) }
-        ensures full { OnFalse result (self.new ≡ self.old) }
+    /// A copy of these files, which takes memory for no more.
+    pub fn copy_of(alloc: Global, files: &[FileId]) -> Result<FileIds, OutOfMemory>
+        requires { length files.now ≤ MOST_ENTRIES }
+        ensures { IfOk result (λ list. list ≡ files.now) }
     {
-        if self.items.len() == self.room {
-            return false;
-        }
-        self.items.push(file).is_ok()
+        let items = ArcSlice::from_slice(alloc, files)?;
+        Ok(FileIds { items })
     }
 
-    /// The files, in the order in which they were added.
+    /// The files, in order.
     pub fn as_slice(&self) -> &[FileId]
-        ensures value { result.now ≡ self.now.files }
-        ensures limit { (length self.now.files ≤ self.now.room) × (self.now.room ≤ MOST_ENTRIES) }
+        ensures value { result.now ≡ self.now }
+        ensures limit { length self.now ≤ MOST_ENTRIES }
     {
-        &self.items
+        self.items.as_slice()
     }
 
-    /// The same files in memory of their own, with the same room.
-    pub fn copy(&self, alloc: Global) -> Result<FileIds, OutOfMemory>
-        ensures { IfOk result (λ ids. ids ≡ self.now) }
+    /// The same files, shared.
+    pub fn copy(&self, _alloc: Global) -> Result<FileIds, OutOfMemory>
+        ensures { IfOk result (λ list. list ≡ self.now) }
     {
-        let mut items = Vec::with_capacity(alloc, self.room)?;
-        items.extend_from_slice(self.items.as_slice())?;
-        Ok(FileIds {
-            items,
-            room: self.room,
-        })
+        let items = self.items.clone()?;
+        Ok(FileIds { items })
     }
 }

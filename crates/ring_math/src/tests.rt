@@ -64,24 +64,42 @@ fn texts(rt: HostRuntime) {
 
 #[test]
 fn ids_are_at_most_so_many(rt: HostRuntime) -> Result<(), Fail> {
-    let mut ids = Ids::with_room(rt.alloc())?;
+    let mut ids = IdsBuilder::new();
     for i in 0..17u8 {
         assert!(rt; ids.push(at(i)));
     }
     assert!(rt; !ids.push(at(17)));
-    let copy = ids.copy(rt.alloc())?;
-    assert_eq!(rt; copy.as_slice().len(), 17);
+    assert_eq!(rt; ids.as_slice().len(), 17);
+    let ids = ids.finish(rt.alloc())?;
+    assert_eq!(rt; ids.as_slice().get(16).copied(), Some(at(16)));
     Ok(())
 }
 
 #[test]
-fn files_keep_to_their_room(rt: HostRuntime) -> Result<(), Fail> {
-    let mut files = FileIds::with_room(rt.alloc(), 1)?;
-    assert!(rt; files.push(FileId([1; 20])));
-    assert!(rt; !files.push(FileId([2; 20])));
-    let mut copy = files.copy(rt.alloc())?;
-    assert!(rt; !copy.push(FileId([2; 20])));
-    assert_eq!(rt; copy.as_slice(), &[FileId([1; 20])][..]);
+fn a_copy_outlives_its_source(rt: HostRuntime) -> Result<(), Fail> {
+    let mut ids = IdsBuilder::new();
+    assert!(rt; ids.push(at(1)));
+    let ids = ids.finish(rt.alloc())?;
+    let copy = ids.copy(rt.alloc())?;
+    drop(ids);
+    assert_eq!(rt; copy.as_slice(), [at(1)].as_slice());
+
+    let one = FileIds::copy_of(rt.alloc(), &[FileId([1; 20])])?;
+    let copy = one.copy(rt.alloc())?;
+    drop(one);
+    assert_eq!(rt; copy.as_slice(), [FileId([1; 20])].as_slice());
+    let none = FileIds::of(Vec::new(rt.alloc()))?;
+    assert_eq!(rt; none.copy(rt.alloc())?.as_slice().len(), 0);
+    Ok(())
+}
+
+fn is_shared<T: Send + Sync>(_value: &T) {}
+
+#[test]
+fn threads_share_lists(rt: HostRuntime) -> Result<(), Fail> {
+    is_shared(&Bytes::copy_of(rt.alloc(), b"shared")?);
+    is_shared(&IdsBuilder::new().finish(rt.alloc())?);
+    is_shared(&FileIds::of(Vec::new(rt.alloc()))?);
     Ok(())
 }
 

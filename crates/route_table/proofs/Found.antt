@@ -1,7 +1,7 @@
 -- The nearest of the entries that improve, one entry more at a time.
 use Rattle.std.proofs.Common.{◌≡◌, ◌≢◌, ℕ, zero, suc, ◌+◌, ◌<◌, ◌⊎◌, true, false, List, [], ◌∷◌, ◌++◌, length, take, get_or, Option, Some, refl, sym}
 use Rattle.std.proofs.Common.{subst, ap, ◌∙◌, arith, inl, inr}
-use Rattle.std.specs.Prelude.{nat_le}
+use Rattle.std.specs.Prelude.{nat_le, ◌↔◌}
 use Rattle.std.specs.List.{Contains}
 use Rattle.std.proofs.lemmas.Bool.{cases_Bool, cases_eq, and_parts, and_from}
 use Rattle.std.proofs.lemmas.List.{take_more}
@@ -101,6 +101,18 @@ module _ (key least than : ℕ) (xs : List (Option ℕ)) (i : ℕ) where
       | inl c ↦ farther z (record { entry = c; better = p.better })
       | inr here ↦ let same : z ≡ x = cc in absurd (ne same)
     ]
+
+-- ---- the same of the other list with the same entries
+
+pub nearest_same : (xs es : List (Option ℕ)) (key least than y : ℕ) → ((z : ℕ) → Contains es (Some z) ↔ Contains xs (Some z)) →
+    Nearest xs key least than y → Nearest es key least than y
+nearest_same xs es key least than y same h = record { named = named h.named; nearest = nearest } where
+  named : (y ≡ than) ⊎ Improves xs key least than y → (y ≡ than) ⊎ Improves es key least than y
+  named (inl e) = inl e
+  named (inr p) = inr (record { entry = (same y).1 p.entry; better = p.better })
+
+  nearest : (z : ℕ) → Improves es key least than z → z ≢ y → is_nearer z y key ≡ false
+  nearest z p ne = h.nearest z (record { entry = (same z).0 p.entry; better = p.better }) ne
 
 -- ---- as a clause says it
 

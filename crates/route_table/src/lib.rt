@@ -2,7 +2,7 @@
 //! leading digits with the node and has digit d there (Pastry's routing table, Rowstron and Druschel 2001).
 #![tactic(auto)]
 
-ghost use Rattle.std.specs.Prelude.{◌≡◌, ◌<◌, ◌+◌, ◌*◌, List, [], is_none, MatchOption, IfOk};
+ghost use Rattle.std.specs.Prelude.{◌≡◌, ◌≢◌, ◌<◌, ◌+◌, ◌*◌, ◌↔◌, List, [], is_none, MatchOption, IfOk, Some, Contains};
 ghost use Rattle.std.specs.Bool.{OnTrue, OnFalse};
 ghost use Rattle.ring_math.specs.Names.{Id};
 ghost use Rattle.ring_math.specs.Members.{IsClosest};
@@ -10,6 +10,7 @@ ghost use Rattle.ring_math.specs.Nearer.{improves};
 ghost use Rattle.ring_math.specs.Ring.{dist_of, is_nearer};
 ghost use Rattle.ring_math.specs.Sides.{learn as learn_of};
 ghost use Rattle.route_table.specs.Entries.{StandsFor, Improves, entry_in, is_new, with_entry};
+ghost use Rattle.route_table.specs.Filled.{entry_at as entry_at_of, entries_at};
 
 use ring_math::{DIGIT_VALUES, DIGITS, Id, OutOfMemory, cw, digit, dist, shared};
 use std::alloc::Global;
@@ -22,19 +23,23 @@ const ENTRIES: usize = DIGITS as usize * DIGIT_VALUES as usize;
 #[derive(Drop)]
 pub struct RouteTable {
     me: Id,
-    entries: Vec<Option<Id>>,
+    /// Where nothing belongs stands the node itself, which is never learnt.
+    ids: Vec<Id>,
+    /// How many there are up to the last entry that is filled.
+    filled: usize,
 }
 
 impl Model for RouteTable {
     ghost use Rattle.std.specs.Prelude.{◌≡◌, ◌*◌, length};
     ghost use Rattle.ring_math.specs.declared.limits.TheConstants.{DIGITS, DIGIT_VALUES};
     ghost use Rattle.route_table.specs.Entries.{Table};
+    ghost use Rattle.route_table.specs.Filled.{entries_at, FilledTo};
 
     ghost Value = { Table };
 
-    ghost view = { λ a. record { me = a.me; entries = a.entries.items } };
+    ghost view = { λ a. record { me = a.me; entries = entries_at a.me a.ids.items } };
 
-    ghost invariant = { λ a. length a.entries.items ≡ DIGITS * DIGIT_VALUES };
+    ghost invariant = { λ a. (length a.ids.items ≡ DIGITS * DIGIT_VALUES) × FilledTo a.me a.ids.items a.filled };
 }
 
 /// The place of an entry among the rows.
@@ -45,6 +50,13 @@ fn place_of(row: u8, col: u8) -> usize
     ensures within { result < ENTRIES }
 {
     DIGIT_VALUES as usize * row as usize + col as usize
+}
+
+/// What stands at a place of the table: the identifier there, and nothing where it is the node itself.
+fn entry_at(me: Id, id: Id) -> Option<Id>
+    ensures { result ≡ entry_at_of me id }
+{
+    if id == me { None } else { Some(id) }
 }
 
 /// Whether an identifier is nearer to the key than another, whose distance from the key is known.
@@ -72,8 +84,8 @@ impl RouteTable {
         ensures me { IfOk result (λ table. table.me ≡ me) }
         ensures stands { IfOk result (λ table. StandsFor table []) }
     {
-        let entries = vec![in alloc; None; ENTRIES]?;
-        Ok(RouteTable { me, entries })
+        let ids = vec![in alloc; me; ENTRIES]?;
+        Ok(RouteTable { me, ids, filled: 0 })
     }
 
     /// The node whose table it is.
@@ -87,10 +99,11 @@ impl RouteTable {
     pub fn copy(&self, alloc: Global) -> Result<RouteTable, OutOfMemory>
         ensures { IfOk result (λ copy. copy ≡ self.now) }
     {
-        let entries = self.entries.as_slice().to_vec(alloc)?;
+        let ids = self.ids.as_slice().to_vec(alloc)?;
         Ok(RouteTable {
             me: self.me,
-            entries,
+            ids,
+            filled: self.filled,
         })
     }
 
@@ -100,28 +113,31 @@ impl RouteTable {
         requires col { col < DIGIT_VALUES }
         ensures { result ≡ entry_in self.now row col }
     {
-        self.entries[place_of(row, col)]
+        entry_at(self.me, self.ids[place_of(row, col)])
     }
 
-    fn entries(&self) -> &[Option<Id>]
-        ensures { result.now ≡ self.now.entries }
+    /// What stands at the places up to the last that is filled.
+    fn filled(&self) -> &[Id]
+        ensures { (z : Id) → Contains self.now.entries (Some z) ↔ Contains (entries_at self.now.me result.now) (Some z) }
     {
-        &self.entries
+        &self.ids[..self.filled]
     }
 
     /// Fills an entry where it is empty, and answers whether it was.
     fn fill(&mut self, row: u8, col: u8, id: Id) -> bool
         requires row { row < DIGITS }
         requires col { col < DIGIT_VALUES }
+        requires other { id ≢ self.old.me }
         ensures answer { result ≡ is_none (entry_in self.old row col) }
         ensures filled { OnTrue result (self.new ≡ with_entry self.old row col id) }
         ensures same { OnFalse result (self.new ≡ self.old) }
     {
         let place = place_of(row, col);
-        if self.entries[place].is_some() {
+        if self.ids[place] != self.me {
             return false;
         }
-        self.entries[place] = Some(id);
+        self.ids[place] = id;
+        self.filled = self.filled.max(place + 1);
         true
     }
 
@@ -149,11 +165,11 @@ impl RouteTable {
         // What is nearer than the nearest so far is nearer than `than`, so one comparison does for both.
         let mut nearest = than;
         let mut distance = dist(than, key);
-        for entry in self.entries() {
-            let Some(id) = *entry else { continue };
-            if improves_on(id, key, least, nearest, distance) {
-                nearest = id;
-                distance = dist(id, key);
+        let me = self.me();
+        for id in self.filled() {
+            if *id != me && improves_on(*id, key, least, nearest, distance) {
+                nearest = *id;
+                distance = dist(nearest, key);
             }
         }
         if nearest == than { None } else { Some(nearest) }

@@ -6,7 +6,7 @@ use Rattle.std.proofs.lemmas.Grind.{flat_map-append}
 use Rattle.std.proofs.lemmas.Slice.{take-put_mid}
 use borrow.Rule.Slice.PartMut.{put_mid}
 use Rattle.rand_chacha.specs.ChaCha.{ChaCha, next_word}
-use Rattle.schedule.specs.Words.{words_to_come, generator_after, bytes_of, generator_at}
+use Rattle.schedule.specs.Words.{words_from, words_to_come, generator_after, bytes_of, generator_at, word_of}
 
 -- one word more
 pub words_more : (g : ChaCha) (k : ℕ) → words_to_come g (suc k) ≡ words_to_come g k ++ (next_word 4 (generator_after g k)).0 ∷ []
@@ -35,6 +35,17 @@ word_filled g now k a j n word bytes four before at is wrote sum fits =
 pub after_word : (g now next : ChaCha) (k : ℕ) → now ≡ generator_after g k → next ≡ (next_word 4 now).1 → next ≡ generator_after g (k + 1)
 after_word g now next k at is =
     is ∙ ap (λ h. (next_word 4 h).1) at ∙ sym (after_more g k) ∙ ap (λ n. generator_after g n) (sym (add-one k))
+
+-- the words of a generator at its start are the seed's
+pub words_are : (seed t count : ℕ) → t + count < 2 ^ 68 → words_to_come (generator_at seed t) count ≡ words_from seed t count
+unfolding words_from words_to_come
+words_are seed t zero h = refl
+words_are seed t (suc count) h =
+    ap (λ p. word_of seed t ∷ words_to_come (generator_at seed p) count) next ∙
+    ap (λ ws. word_of seed t ∷ ws) (words_are seed (suc t) count (omega arith))
+  where
+    next : (t + 1) % 2 ^ 68 ≡ suc t
+    next = grind arith
 
 -- a seed's generator, so many words on
 pub seed_after : (seed t count : ℕ) → t + count < 2 ^ 68 → generator_after (generator_at seed t) count ≡ generator_at seed (t + count)

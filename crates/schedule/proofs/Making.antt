@@ -9,8 +9,7 @@ use Rattle.rand_chacha.specs.ChaCha.{ChaCha}
 use Rattle.schedule.specs.declared.file.MadeFile.{MadeFile}
 use Rattle.schedule.specs.Made.{Making, id_from, node_id, file_name, file_from, file_word, made_file, ids_made, files_made}
 use Rattle.schedule.specs.Words.{bytes_of, words_from, words_to_come, generator_after, generator_at}
-use Rattle.schedule.proofs.Filling.{seed_after}
-use Rattle.schedule.proofs.Turning.{words_are}
+use Rattle.schedule.proofs.Filling.{words_are, seed_after}
 
 -- the identifier of filled bytes whose first is another
 pub id_is : (node result : ℕ) (words filled : List ℕ) → filled ≡ bytes_of words → length filled ≡ 16 →

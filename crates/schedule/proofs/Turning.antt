@@ -1,25 +1,13 @@
 -- The turns of an action that has begun.
-use Rattle.std.proofs.Common.{◌≡◌, ◌<◌, ◌≤◌, ℕ, zero, suc, ◌+◌, ◌-◌, ◌^◌, ◌%◌, Option, Some, None, List, [], ◌∷◌, ◌++◌, replicate, refl, sym, subst, ap, ◌∙◌}
-use Rattle.std.proofs.Common.{◌⊎◌, inl, inr, arith, append_assoc}
-use Rattle.rand_chacha.specs.ChaCha.{ChaCha, next_word}
+use Rattle.std.proofs.Common.{◌≡◌, ◌<◌, ◌≤◌, ℕ, zero, suc, ◌+◌, ◌-◌, Option, Some, None, List, [], ◌∷◌, ◌++◌, replicate, refl, sym, subst, ap, ◌∙◌}
+use Rattle.std.proofs.Common.{◌⊎◌, inl, inr, arith, append_assoc, add-one}
 use Rattle.overlay_rules.specs.declared.entry.Event.TheVariants as event
 use Rattle.overlay_rules.specs.Played.{Action as Act, Settle, Deliver, Shuffle, drawn}
 use Rattle.schedule.specs.declared.turn.Turn.{Turn}
 use Rattle.schedule.specs.declared.turn.Turn.TheVariants as turn
 use Rattle.schedule.specs.Begun.{Gives, IsDelivery}
 use Rattle.schedule.specs.Turns.{Happens, turned, delivery}
-use Rattle.schedule.specs.Words.{words_from, words_to_come, generator_at, word_of}
-
--- the words of a generator at its start are the seed's
-pub words_are : (seed t count : ℕ) → t + count < 2 ^ 68 → words_to_come (generator_at seed t) count ≡ words_from seed t count
-unfolding words_from words_to_come
-words_are seed t zero h = refl
-words_are seed t (suc count) h =
-    ap (λ p. word_of seed t ∷ words_to_come (generator_at seed p) count) next ∙
-    ap (λ ws. word_of seed t ∷ ws) (words_are seed (suc t) count (omega arith))
-  where
-    next : (t + 1) % 2 ^ 68 ≡ suc t
-    next = grind arith
+use Rattle.schedule.specs.Words.{words_from, word_of}
 
 -- one delivery of a message
 pub gives_delivery : (m copies sent : ℕ) (oldest : Option ℕ) (t : Turn) → IsDelivery m sent t → Gives (Deliver m ∷ []) copies sent oldest [] t
@@ -73,29 +61,36 @@ settle_ends m zero zero copies sent oldest none ends acts = refl
 settle_ends m zero (suc left) copies sent oldest none (inl h) acts = absurd (omega arith)
 settle_ends m zero (suc left) copies sent oldest none (inr h) acts = rw h refl
 
--- the next word of a shuffle
-pub gives_word : (g : ChaCha) (left word m copies sent : ℕ) (oldest : Option ℕ) (t : Turn) → (left ≡ 0 → ⊥) → word ≡ (next_word 4 g).0 → m ≡ drawn word sent →
-    IsDelivery m sent t →
-    Gives (Shuffle (words_to_come g left) ∷ []) copies sent oldest (Shuffle (words_to_come (next_word 4 g).1 (left - 1)) ∷ []) t
-unfolding words_to_come
-gives_word g left word m copies sent oldest t some is at h =
-    subst (λ n. Gives (Shuffle (words_to_come g n) ∷ []) copies sent oldest (Shuffle (words_to_come (next_word 4 g).1 (left - 1)) ∷ []) t) more one
+-- the first of the words of a shuffle, and the others
+words_next : (seed next end : ℕ) → next < end → words_from seed next (end - next) ≡ word_of seed next ∷ words_from seed (next + 1) (end - (next + 1))
+unfolding words_from
+words_next seed next end some =
+    ap (λ n. words_from seed next n) more ∙ ap (λ n. word_of seed next ∷ words_from seed n (end - (next + 1))) (sym (add-one next))
   where
-    more : suc (left - 1) ≡ left
+    more : end - next ≡ suc (end - (next + 1))
     more = omega arith
 
-    same : drawn (next_word 4 g).0 sent ≡ m
+-- the next word of a shuffle
+pub gives_word : (seed next end word m copies sent : ℕ) (oldest : Option ℕ) (t : Turn) → next < end → word ≡ word_of seed next → m ≡ drawn word sent →
+    IsDelivery m sent t →
+    Gives (Shuffle (words_from seed next (end - next)) ∷ []) copies sent oldest (Shuffle (words_from seed (next + 1) (end - (next + 1))) ∷ []) t
+gives_word seed next end word m copies sent oldest t some is at h = record {
+  step = delivery m sent;
+  means = h;
+  is = λ acts.
+      ap (λ ws. turned (Shuffle ws ∷ acts) copies sent oldest) (words_next seed next end some) ∙
+      ap (λ n. record { step = delivery n sent; left = Shuffle (words_from seed (next + 1) (end - (next + 1))) ∷ acts; copies = copies }) same;
+}
+  where
+    same : drawn (word_of seed next) sent ≡ m
     same = ap (λ w. drawn w sent) (sym is) ∙ sym at
 
-    one : Gives (Shuffle (words_to_come g (suc (left - 1))) ∷ []) copies sent oldest (Shuffle (words_to_come (next_word 4 g).1 (left - 1)) ∷ []) t
-    one = record {
-      step = delivery m sent;
-      means = h;
-      is = λ acts. ap (λ n. record { step = delivery n sent; left = Shuffle (words_to_come (next_word 4 g).1 (left - 1)) ∷ acts; copies = copies }) same;
-    }
-
--- a shuffle that begins
-pub shuffle_begins : (seed count copies sent : ℕ) (oldest : Option ℕ) (g : ChaCha) (acts : List Act) → count < 2 ^ 64 → g ≡ generator_at seed 0 →
-    turned (Shuffle (words_from seed 0 count) ∷ acts) copies sent oldest ≡ turned (Shuffle (words_to_come g count) ∷ acts) copies sent oldest
-shuffle_begins seed count copies sent oldest g acts h is =
-    ap (λ ws. turned (Shuffle ws ∷ acts) copies sent oldest) (sym (ap (λ h. words_to_come h count) is ∙ words_are seed 0 count (omega arith)))
+-- a shuffle that is at its end
+pub shuffle_ends : (seed next end copies sent : ℕ) (oldest : Option ℕ) → end ≤ next → (acts : List Act) →
+    turned (Shuffle (words_from seed next (end - next)) ∷ acts) copies sent oldest ≡ turned acts copies sent oldest
+unfolding words_from
+shuffle_ends seed next end copies sent oldest none acts =
+    ap (λ n. turned (Shuffle (words_from seed next n) ∷ acts) copies sent oldest) over
+  where
+    over : end - next ≡ 0
+    over = omega arith

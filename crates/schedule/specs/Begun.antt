@@ -1,5 +1,5 @@
 -- What is left of an action that has begun, and what it gives.
-use Rattle.std.specs.Prelude.{◌≡◌, ◌≤◌, ℕ, Option, Some, List, [], ◌∷◌, ◌++◌, replicate}
+use Rattle.std.specs.Prelude.{◌≡◌, ◌≤◌, ◌-◌, ℕ, Option, Some, List, [], ◌∷◌, ◌++◌, replicate}
 use Rattle.overlay_rules.specs.Played.{Action as Act, Settle, Deliver, Shuffle}
 use Rattle.scenario_reader.specs.declared.action.Action.{Action}
 use Rattle.scenario_reader.specs.declared.action.What.{What}
@@ -9,13 +9,13 @@ use Rattle.schedule.specs.declared.begun.Begun.TheVariants as begun
 use Rattle.schedule.specs.declared.turn.Turn.{Turn}
 use Rattle.schedule.specs.Cursors.{step_of}
 use Rattle.schedule.specs.Turns.{Step, turned, delivery}
-use Rattle.schedule.specs.Words.{words_to_come}
+use Rattle.schedule.specs.Words.{words_from}
 
 abbrev pub begun_acts : Begun → List Act
 begun_acts begun.Nothing = []
 begun_acts (begun.Deliver message) = Deliver message ∷ []
 begun_acts (begun.Settle message again left) = replicate again (Deliver message) ++ Settle left ∷ []
-begun_acts (begun.Shuffle left words) = Shuffle (words_to_come words left) ∷ []
+begun_acts (begun.Shuffle seed next end) = Shuffle (words_from seed next (end - next)) ∷ []
 
 -- a turn that is the delivery of a message, or a skip
 abbrev pub IsDelivery : ℕ → ℕ → Turn → Type 0

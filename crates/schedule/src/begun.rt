@@ -5,47 +5,30 @@ ghost use Rattle.overlay_rules.specs.Played.{Action as Act, drawn};
 ghost use Rattle.schedule.specs.Begun.{begun_acts, Gives, IsDelivery};
 ghost use Rattle.schedule.specs.Turns.{turned};
 
+use crate::shuffle_words::ShuffleWords;
 use crate::turn::Turn;
-use crate::words::Words;
 
 /// What is left of the action that began last.
-#[derive(Drop)]
+#[derive(Clone, Copy)]
 pub(crate) enum Begun {
     Nothing,
     /// One delivery of a message.
     Deliver(u64),
     /// So many more deliveries of a message, and then of so many that are then the oldest.
     Settle { message: u64, again: u8, left: u32 },
-    /// So many deliveries by the next random words.
-    Shuffle { left: u32, words: Words },
+    /// Deliveries by the words of a seed, from the place `next` on and before `end`.
+    Shuffle { seed: u64, next: u32, end: u32 },
 }
 
 impl Begun {
-    pub(crate) fn copy(&self) -> Begun
-        ensures { result ≡ self.now }
-    {
-        match self {
-            Begun::Nothing => Begun::Nothing,
-            Begun::Deliver(message) => Begun::Deliver(*message),
-            Begun::Settle {
-                message,
-                again,
-                left,
-            } => Begun::Settle {
-                message: *message,
-                again: *again,
-                left: *left,
-            },
-            Begun::Shuffle { left, words } => Begun::Shuffle {
-                left: *left,
-                words: words.copy(),
-            },
-        }
-    }
-
     /// The next turn of the action, None where it has no more.
-    #[tactic(auto, unfolding(crate::specs::Words::words_to_come))]
-    pub(crate) fn turn(&mut self, copies: u8, sent: u64, oldest: Option<u64>) -> Option<Turn>
+    pub(crate) fn turn(
+        &mut self,
+        words: &mut ShuffleWords,
+        copies: u8,
+        sent: u64,
+        oldest: Option<u64>,
+    ) -> Option<Turn>
         requires { 1 ≤ copies }
         ensures some { IfSome result (λ turn. Gives (begun_acts self.old) copies sent oldest (begun_acts self.new) turn) }
         ensures none { IfNone result ((acts : List Act) → turned (begun_acts self.old ++ acts) copies sent oldest ≡ turned acts copies sent oldest) }
@@ -75,12 +58,13 @@ impl Begun {
                 *left -= 1;
                 Some(Turn::Deliver(oldest))
             }
-            Begun::Shuffle { left, words } => {
-                if *left == 0 {
+            Begun::Shuffle { seed, next, end } => {
+                if *next >= *end {
                     return None;
                 }
-                *left -= 1;
-                Some(delivery(drawn(words.next(), sent), sent))
+                let word = words.word(*seed, *next);
+                *next += 1;
+                Some(delivery(drawn(word, sent), sent))
             }
         }
     }

@@ -8,13 +8,13 @@ ghost use Rattle.schedule.specs.Schedule.{act_of};
 ghost use Rattle.schedule.specs.Turns.{turned};
 
 use crate::begun::Begun;
+use crate::shuffle_words::ShuffleWords;
 use crate::turn::Turn;
-use crate::words::Words;
 use scenario_reader::{Scenario, What};
 use std::marker::Model;
 
 /// How far a scenario is played: the actions that have begun, what is left of the last of them, and how often a settle
-/// delivers.
+/// delivers. A copy is cheap, since the words of a shuffle stand apart.
 #[derive(Drop)]
 pub struct Cursor {
     place: usize,
@@ -52,14 +52,20 @@ impl Cursor {
     {
         Cursor {
             place: self.place,
-            begun: self.begun.copy(),
+            begun: self.begun,
             copies: self.copies,
         }
     }
 
     /// The next turn, where so many messages were sent and this is the oldest that was never delivered. The scenario is
-    /// that of the calls before on this cursor.
-    pub fn next(&mut self, scenario: &Scenario, sent: u64, oldest: Option<u64>) -> Turn
+    /// that of the calls before on this cursor. Any words serve, and those of the calls before are the fastest.
+    pub fn next(
+        &mut self,
+        scenario: &Scenario,
+        words: &mut ShuffleWords,
+        sent: u64,
+        oldest: Option<u64>,
+    ) -> Turn
         ensures turn { step_of scenario.now.actions result ≡ Some (turn_at scenario.now.actions self.old sent oldest).step }
         ensures left { left_at scenario.now.actions self.new ≡ (turn_at scenario.now.actions self.old sent oldest).left }
         ensures copies { self.new.copies ≡ (turn_at scenario.now.actions self.old sent oldest).copies }
@@ -67,7 +73,7 @@ impl Cursor {
     {
         let actions = scenario.actions();
         loop {
-            if let Some(turn) = self.go_on(sent, oldest) {
+            if let Some(turn) = self.go_on(words, sent, oldest) {
                 return turn;
             }
             if self.place >= actions.len() {
@@ -82,14 +88,14 @@ impl Cursor {
     }
 
     /// The next turn of the action that began last, None where it has no more.
-    fn go_on(&mut self, sent: u64, oldest: Option<u64>) -> Option<Turn>
+    fn go_on(&mut self, words: &mut ShuffleWords, sent: u64, oldest: Option<u64>) -> Option<Turn>
         ensures place { self.new.place ≡ self.old.place }
         ensures copies { self.new.copies ≡ self.old.copies }
         ensures some { IfSome result (λ turn. Gives self.old.begun self.old.copies sent oldest self.new.begun turn) }
         ensures none { IfNone result ((acts : List Act) → turned (self.old.begun ++ acts) self.old.copies sent oldest ≡ turned acts self.old.copies sent oldest) }
         ensures nothing { IfNone result (self.new.begun ≡ []) }
     {
-        let turn = self.begun.turn(self.copies, sent, oldest);
+        let turn = self.begun.turn(words, self.copies, sent, oldest);
         if turn.is_none() {
             self.begun = Begun::Nothing;
         }
@@ -117,8 +123,9 @@ impl Cursor {
             }
             What::Shuffle { seed, count } => {
                 self.begun = Begun::Shuffle {
-                    left: *count,
-                    words: Words::new(*seed),
+                    seed: *seed,
+                    next: 0,
+                    end: *count,
                 }
             }
             What::Dup(copies) => self.copies = *copies,

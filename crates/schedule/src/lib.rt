@@ -7,6 +7,7 @@ mod file;
 mod laws;
 mod made;
 mod make;
+mod shuffle_words;
 mod task;
 mod turn;
 mod words;
@@ -14,6 +15,7 @@ mod words;
 pub use cursor::Cursor;
 pub use laws::turn_law;
 pub use make::make_scenario;
+pub use shuffle_words::ShuffleWords;
 pub use turn::Turn;
 
 #[cfg(test)]

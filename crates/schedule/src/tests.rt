@@ -2,7 +2,7 @@
 //! and SHA-1.
 
 use crate::begun::Begun;
-use crate::{Cursor, Turn, make_scenario, turn_law};
+use crate::{Cursor, ShuffleWords, Turn, make_scenario, turn_law};
 use ring_math::id_from_hex;
 use scenario_reader::What;
 use std::test::Fail;
@@ -23,8 +23,9 @@ fn settles_by_copies(rt: HostRuntime) {
         (None, Some(Turn::Deliver(1))),
         (None, None),
     ];
+    let mut words = ShuffleWords::new();
     for (oldest, turn) in turns {
-        assert_eq!(rt; begun.turn(2, 2, oldest), turn);
+        assert_eq!(rt; begun.turn(&mut words, 2, 2, oldest), turn);
     }
 }
 
@@ -32,6 +33,7 @@ fn settles_by_copies(rt: HostRuntime) {
 #[test]
 fn walks_a_made_scenario(rt: HostRuntime) -> Result<(), Fail> {
     let scenario = make_scenario(rt.alloc(), 2, 0)?;
+    let mut words = ShuffleWords::new();
     let mut cursor = Cursor::new();
     let turns = [
         (0, None, Turn::Action(0)),
@@ -40,15 +42,38 @@ fn walks_a_made_scenario(rt: HostRuntime) -> Result<(), Fail> {
         (5, None, Turn::Deliver(4)),
     ];
     for (sent, oldest, turn) in turns {
-        assert_eq!(rt; cursor.next(&scenario, sent, oldest), turn);
+        assert_eq!(rt; cursor.next(&scenario, &mut words, sent, oldest), turn);
     }
     for _ in 3..40 {
-        assert_eq!(rt; cursor.next(&scenario, 0, None), Turn::Skip);
+        assert_eq!(rt; cursor.next(&scenario, &mut words, 0, None), Turn::Skip);
     }
-    assert_eq!(rt; cursor.next(&scenario, 5, Some(4)), Turn::Deliver(4));
-    assert_eq!(rt; cursor.next(&scenario, 5, None), Turn::Action(3));
+    assert_eq!(rt;
+        cursor.next(&scenario, &mut words, 5, Some(4)),
+        Turn::Deliver(4)
+    );
+    assert_eq!(rt;
+        cursor.next(&scenario, &mut words, 5, None),
+        Turn::Action(3)
+    );
     turn_law();
     Ok(())
+}
+
+/// Words are the same in any order, and of another seed they are others.
+#[test]
+fn words_stand_at_places(rt: HostRuntime) {
+    let mut words = ShuffleWords::new();
+    let asked = [
+        (0, 0, 0x2fef003e),
+        (0, 1, 0xd6405f89),
+        (0, 1, 0xd6405f89),
+        (0, 2, 0xe8b85b7f),
+        (0, 0, 0x2fef003e),
+    ];
+    for (seed, place, word) in asked {
+        assert_eq!(rt; words.word(seed, place), word);
+    }
+    assert!(rt; words.word(1, 1) != 0xd6405f89);
 }
 
 #[test]

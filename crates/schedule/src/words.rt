@@ -41,12 +41,13 @@ impl Words {
         }
     }
 
-    pub(crate) fn copy(&self) -> Words
-        ensures { result ≡ self.now }
+    /// The words from a place on.
+    pub(crate) fn from_place(seed: u64, place: u32) -> Words
+        ensures { result ≡ generator_at seed place }
     {
-        Words {
-            generator: self.generator.clone().unwrap(),
-        }
+        let mut words = Words::new(seed);
+        words.generator.set_word_pos(u128::from(place));
+        words
     }
 
     pub(crate) fn next(&mut self) -> u32

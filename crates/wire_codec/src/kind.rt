@@ -68,7 +68,7 @@ impl Version {
 
     /// The version of a Grant.
     fn of_tombs(tombs: &FileIds) -> Version
-        ensures { result ≡ version_of_tombs tombs.now.files }
+        ensures { result ≡ version_of_tombs tombs.now }
     {
         if tombs.as_slice().is_empty() {
             Version::One

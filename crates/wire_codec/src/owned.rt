@@ -4,7 +4,7 @@ ghost use Rattle.std.specs.Prelude.{◌≡◌, ◌≤◌, length, map, IfOk};
 ghost use Rattle.std.specs.Int.{w128, from_be_bytes};
 ghost use Rattle.ring_math.specs.declared.limits.TheConstants.{MOST_BYTES, MOST_ENTRIES, MOST_MEMBERS};
 
-use ring_math::{Bytes, FileId, FileIds, Id, Ids, OutOfMemory};
+use ring_math::{Bytes, FileId, FileIds, Id, Ids, IdsBuilder, OutOfMemory};
 use std::alloc::Global;
 
 pub(crate) fn owned_bytes(alloc: Global, bytes: &[u8]) -> Result<Bytes, OutOfMemory>
@@ -22,20 +22,20 @@ pub(crate) fn owned_ids(alloc: Global, ids: &[[u8; 16]]) -> Result<Ids, OutOfMem
     requires { length ids.now ≤ MOST_MEMBERS }
     ensures { IfOk result (λ owned. owned ≡ map (from_be_bytes w128) ids.now) }
 {
-    let mut owned = Ids::with_room(alloc)?;
+    let mut owned = IdsBuilder::new();
     for id in ids {
         let _has_room = owned.push(Id(u128::from_be_bytes(*id)));
     }
-    Ok(owned)
+    owned.finish(alloc)
 }
 
 pub(crate) fn owned_files(alloc: Global, files: &[[u8; 20]]) -> Result<FileIds, OutOfMemory>
     requires { length files.now ≤ MOST_ENTRIES }
-    ensures { IfOk result (λ owned. owned.files ≡ files.now) }
+    ensures { IfOk result (λ owned. owned ≡ files.now) }
 {
-    let mut owned = FileIds::with_room(alloc, files.len())?;
+    let mut owned = Vec::with_capacity(alloc, files.len())?;
     for file in files {
-        let _has_room = owned.push(FileId(*file));
+        owned.push(FileId(*file))?;
     }
-    Ok(owned)
+    FileIds::of(owned)
 }

@@ -203,7 +203,7 @@ fn put_each_file(out: &mut Vec<u8>, files: &[FileId]) -> Result<(), OutOfMemory>
 
 /// The count of the files, and the files.
 pub(crate) fn put_files(out: &mut Vec<u8>, files: &FileIds) -> Result<(), OutOfMemory>
-    ensures { OnOk result (Writes out.old.items out.new.items (Field.Files files.now.files ∷ [])) }
+    ensures { OnOk result (Writes out.old.items out.new.items (Field.Files files.now ∷ [])) }
 {
     let files = files.as_slice();
     out.extend_from_slice(&(files.len() as u16).to_be_bytes())?;

@@ -90,7 +90,7 @@ fn put_reply(out: &mut Vec<u8>, reply: &Reply) -> Result<(), OutOfMemory>
 
 /// The tombs of a Grant, if there are any.
 fn put_tombs(out: &mut Vec<u8>, tombs: &FileIds) -> Result<(), OutOfMemory>
-    ensures { OnOk result (Writes out.old.items out.new.items (fields_of_tombs tombs.now.files)) }
+    ensures { OnOk result (Writes out.old.items out.new.items (fields_of_tombs tombs.now)) }
 {
     if !tombs.as_slice().is_empty() {
         put_files(out, tombs)?;

@@ -39,14 +39,14 @@ fn ids_size(ids: &Ids) -> usize
 }
 
 fn files_size(files: &FileIds) -> usize
-    ensures value { result ≡ size_of (Field.Files files.now.files) }
+    ensures value { result ≡ size_of (Field.Files files.now) }
     ensures limit { result ≤ 2 + 20 * MOST_ENTRIES }
 {
     2 + FILE * files.as_slice().len()
 }
 
 fn tombs_size(tombs: &FileIds) -> usize
-    ensures value { result ≡ size_of_all (fields_of_tombs tombs.now.files) }
+    ensures value { result ≡ size_of_all (fields_of_tombs tombs.now) }
     ensures limit { result ≤ 2 + 20 * MOST_ENTRIES }
 {
     if tombs.as_slice().is_empty() {

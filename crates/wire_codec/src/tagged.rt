@@ -127,8 +127,8 @@ pub(crate) fn tombs_in(
     place: usize,
 ) -> Result<FileIds, FrameFault>
     requires { place ≤ length bytes.now }
-    ensures value { Gives (λ t. fields_of_tombs t.files) result (values_at bytes.now (tombs version) place) }
-    ensures version { IfOk result (λ t. version_of_tombs t.files ≡ version) }
+    ensures value { Gives (λ t. fields_of_tombs t) result (values_at bytes.now (tombs version) place) }
+    ensures version { IfOk result (λ t. version_of_tombs t ≡ version) }
 {
     match version {
         Version::One => Ok(owned_files(alloc, &[])?),

@@ -1,5 +1,5 @@
 use super::*;
-use ring_math::{Bytes, FileId, FileIds, Id, Ids};
+use ring_math::{Bytes, FileId, FileIds, Id, Ids, IdsBuilder};
 use std::alloc::Global;
 use std::process::Abort;
 use std::test::Fail;
@@ -87,32 +87,32 @@ fn frame_prefixes(rt: HostRuntime) {
 }
 
 fn no_files(alloc: Global) -> Result<FileIds, Fail> {
-    Ok(FileIds::with_room(alloc, 0)?)
+    Ok(FileIds::copy_of(alloc, &[])?)
 }
 
 /// So many files.
 fn files(alloc: Global, n: u16) -> Result<FileIds, Fail> {
-    if n > 4096 {
-        return Err("a list has at most 4,096 files")?;
-    }
-    let mut files = FileIds::with_room(alloc, usize::from(n))?;
+    let mut files = Vec::new(alloc);
     for i in 0..n {
         let [high, low] = i.to_be_bytes();
         let mut file = [0x5a; 20];
         file[0] = high;
         file[19] = low;
-        let _has_room = files.push(FileId(file));
+        files.push(FileId(file))?;
     }
-    Ok(files)
+    if files.len() > 4096 {
+        return Err("a list has at most 4,096 files")?;
+    }
+    Ok(FileIds::of(files)?)
 }
 
 /// As many identifiers as a list takes.
 fn all_ids(alloc: Global) -> Result<Ids, Fail> {
-    let mut ids = Ids::with_room(alloc)?;
+    let mut ids = IdsBuilder::new();
     for i in 0..17u8 {
         let _has_room = ids.push(Id(u128::from(i)));
     }
-    Ok(ids)
+    Ok(ids.finish(alloc)?)
 }
 
 #[test]

@@ -1,4 +1,4 @@
--- The messages as rules, frames and records see them: those of the code, but for the room of a list of files.
+-- The messages as rules, frames and records see them: those of the code, with each kind's parts in the order in which one reads them.
 use Rattle.std.specs.Prelude.{ℕ, List}
 use Rattle.ring_math.specs.Names.{Id, Key, FileId, Content, Attempt, Number, Hops, Stamp}
 use Rattle.wire_msg.specs.declared.reply.Reply.{Reply}
@@ -32,11 +32,11 @@ pub data Message : Type 0 where
   Reclaim : (origin : Id) (number : Number) (hops : Hops) (file : FileId) → Message
   ReclaimReply : (number : Number) (reply : Reply) → Message
 
--- without the room of its lists of files
+-- the code's order of parts saves memory, and means nothing
 abbrev pub plain : CodeMessage → Message
-plain (code.Lookup origin number key hops) = Lookup origin number key hops
+plain (code.Lookup origin key number hops) = Lookup origin number key hops
 plain (code.LookupReply number reply) = LookupReply number reply
-plain (code.Insert origin number hops file copies bytes) = Insert origin number hops file copies bytes
+plain (code.Insert file copies hops number origin bytes) = Insert origin number hops file copies bytes
 plain (code.InsertReply number reply) = InsertReply number reply
 plain (code.Fetch origin number hops file) = Fetch origin number hops file
 plain (code.FetchReply number reply) = FetchReply number reply
@@ -46,13 +46,13 @@ plain (code.JoinRefuse attempt why) = JoinRefuse attempt why
 plain (code.Probe attempt) = Probe attempt
 plain (code.ProbeReply attempt members) = ProbeReply attempt members
 plain (code.LeaseRequest attempt left right) = LeaseRequest attempt left right
-plain (code.Grant attempt manifest tombs) = Grant attempt manifest.files tombs.files
+plain (code.Grant attempt manifest tombs) = Grant attempt manifest tombs
 plain (code.Deny attempt why) = Deny attempt why
 plain (code.Handover file bytes) = Handover file bytes
 plain (code.Release attempt) = Release attempt
 plain (code.Confirm attempt) = Confirm attempt
 plain code.Announce = Announce
-plain (code.Replicate origin number file bytes) = Replicate origin number file bytes
+plain (code.Replicate file number origin bytes) = Replicate origin number file bytes
 plain (code.ReplicaAck origin number file) = ReplicaAck origin number file
 plain (code.Reclaim origin number hops file) = Reclaim origin number hops file
 plain (code.ReclaimReply number reply) = ReclaimReply number reply

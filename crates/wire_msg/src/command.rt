@@ -74,7 +74,7 @@ pub enum Command {
 }
 
 impl Command {
-    /// The same command in memory of its own.
+    /// The same command, which shares the bytes that this one names.
     pub fn copy(&self, alloc: Global) -> Result<Command, OutOfMemory>
         ensures { IfOk result (λ command. command ≡ self.now) }
     {

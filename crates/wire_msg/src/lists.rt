@@ -92,6 +92,13 @@ impl Notes {
         self.items.push(item)?;
         Ok(())
     }
+
+    /// The notes themselves, which need not be copied then.
+    pub fn into_items(self) -> Vec<Note>
+        ensures { result.items ≡ self }
+    {
+        self.items
+    }
 }
 
 /// What an entry of a record sent.
@@ -137,5 +144,12 @@ impl Envelopes {
     {
         self.items.push(item)?;
         Ok(())
+    }
+
+    /// The envelopes themselves, which need not be copied then.
+    pub fn into_items(self) -> Vec<Envelope>
+        ensures { map plain_envelope result.items ≡ self }
+    {
+        self.items
     }
 }

@@ -7,13 +7,18 @@ use crate::reply::{Reply, Why};
 use ring_math::{Bytes, FileId, FileIds, Id, Ids, OutOfMemory};
 use std::alloc::Global;
 
+// A record keeps each message that was sent, so the fields stand in an order that leaves no room between them.
+const _: () = prove!(size_of::<Message>() == 64);
+
+const _: () = prove!(size_of::<Envelope>() == 112);
+
 /// A message, of one of twenty-two kinds. Hops are 0 to 65,535, attempts those of the joiner that a join belongs to.
 #[derive(Drop)]
 pub enum Message {
     Lookup {
         origin: Id,
-        number: u64,
         key: Id,
+        number: u64,
         hops: u16,
     },
     LookupReply {
@@ -21,11 +26,11 @@ pub enum Message {
         reply: Reply,
     },
     Insert {
-        origin: Id,
-        number: u64,
-        hops: u16,
         file: FileId,
         copies: Copies,
+        hops: u16,
+        number: u64,
+        origin: Id,
         bytes: Bytes,
     },
     InsertReply {
@@ -95,9 +100,9 @@ pub enum Message {
     Announce,
     /// A copy of a file for one of the nodes closest to its key.
     Replicate {
-        origin: Id,
-        number: u64,
         file: FileId,
+        number: u64,
+        origin: Id,
         bytes: Bytes,
     },
     ReplicaAck {
@@ -135,20 +140,20 @@ pub struct Envelope {
 }
 
 impl Message {
-    /// The same message in memory of its own.
+    /// The same message, which shares the lists that this one names.
     pub fn copy(&self, alloc: Global) -> Result<Message, OutOfMemory>
         ensures { IfOk result (λ message. message ≡ self.now) }
     {
         Ok(match self {
             Message::Lookup {
                 origin,
-                number,
                 key,
+                number,
                 hops,
             } => Message::Lookup {
                 origin: *origin,
-                number: *number,
                 key: *key,
+                number: *number,
                 hops: *hops,
             },
             Message::LookupReply { number, reply } => Message::LookupReply {
@@ -156,18 +161,18 @@ impl Message {
                 reply: reply.copy(alloc)?,
             },
             Message::Insert {
-                origin,
-                number,
-                hops,
                 file,
                 copies,
+                hops,
+                number,
+                origin,
                 bytes,
             } => Message::Insert {
-                origin: *origin,
-                number: *number,
-                hops: *hops,
                 file: *file,
                 copies: *copies,
+                hops: *hops,
+                number: *number,
+                origin: *origin,
                 bytes: bytes.copy(alloc)?,
             },
             Message::InsertReply { number, reply } => Message::InsertReply {
@@ -241,14 +246,14 @@ impl Message {
             Message::Confirm { attempt } => Message::Confirm { attempt: *attempt },
             Message::Announce => Message::Announce,
             Message::Replicate {
-                origin,
-                number,
                 file,
+                number,
+                origin,
                 bytes,
             } => Message::Replicate {
-                origin: *origin,
-                number: *number,
                 file: *file,
+                number: *number,
+                origin: *origin,
                 bytes: bytes.copy(alloc)?,
             },
             Message::ReplicaAck {
@@ -280,7 +285,7 @@ impl Message {
 }
 
 impl Envelope {
-    /// The same envelope in memory of its own.
+    /// The same envelope, which shares the lists that its message names.
     pub fn copy(&self, alloc: Global) -> Result<Envelope, OutOfMemory>
         ensures { IfOk result (λ envelope. envelope ≡ self.now) }
     {

@@ -6,6 +6,8 @@ use crate::reply::{Answer, Reply};
 use ring_math::{Bytes, FileId, Id, OutOfMemory};
 use std::alloc::Global;
 
+const _: () = prove!(size_of::<Note>() == 96);
+
 #[derive(Drop)]
 pub enum Note {
     /// The root accepted these bytes for the file.
@@ -38,7 +40,7 @@ pub enum Note {
 }
 
 impl Note {
-    /// The same note in memory of its own.
+    /// The same note, which shares the lists that this one names.
     pub fn copy(&self, alloc: Global) -> Result<Note, OutOfMemory>
         ensures { IfOk result (λ note. note ≡ self.now) }
     {

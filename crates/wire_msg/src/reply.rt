@@ -30,7 +30,7 @@ pub enum Reply {
 }
 
 impl Reply {
-    /// The same reply in memory of its own.
+    /// The same reply, which shares the lists that this one names.
     pub fn copy(&self, alloc: Global) -> Result<Reply, OutOfMemory>
         ensures { IfOk result (λ reply. reply ≡ self.now) }
     {
@@ -97,7 +97,7 @@ pub enum Answer {
 }
 
 impl Answer {
-    /// The same answer in memory of its own.
+    /// The same answer, which shares the lists that this one names.
     pub fn copy(&self, alloc: Global) -> Result<Answer, OutOfMemory>
         ensures { IfOk result (λ answer. answer ≡ self.now) }
     {

@@ -1,5 +1,5 @@
 use super::*;
-use ring_math::{Bytes, FileId, FileIds, Id, Ids};
+use ring_math::{Bytes, FileId, FileIds, Id, IdsBuilder};
 use std::alloc::Global;
 use std::test::Fail;
 
@@ -82,9 +82,8 @@ fn a_copy_outlives_its_source(rt: HostRuntime) -> Result<(), Fail> {
 
 #[test]
 fn a_grant_keeps_both_lists(rt: HostRuntime) -> Result<(), Fail> {
-    let mut manifest = FileIds::with_room(rt.alloc(), 2)?;
-    assert!(rt; manifest.push(FileId([1; 20])));
-    let tombs = FileIds::with_room(rt.alloc(), 0)?;
+    let manifest = FileIds::copy_of(rt.alloc(), &[FileId([1; 20])])?;
+    let tombs = FileIds::copy_of(rt.alloc(), &[])?;
     let grant = Message::Grant {
         attempt: 9,
         manifest,
@@ -106,8 +105,9 @@ fn a_grant_keeps_both_lists(rt: HostRuntime) -> Result<(), Fail> {
 
 #[test]
 fn notes_and_sends_are_kept_in_order(rt: HostRuntime) -> Result<(), Fail> {
-    let mut holders = Ids::with_room(rt.alloc())?;
+    let mut holders = IdsBuilder::new();
     assert!(rt; holders.push(Id(3)));
+    let holders = holders.finish(rt.alloc())?;
     let answer = Answer::Reply(Reply::Stored { holders });
     let mut notes = Notes::new(rt.alloc());
     notes.push(Note::Reclaimed {

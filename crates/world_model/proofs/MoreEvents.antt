@@ -1,27 +1,29 @@
 -- A record with one event more: it is legal, and the world after it is the world in which the event has happened.
-use Rattle.std.proofs.Common.{◌≡◌, ◌<◌, ◌+◌, ℕ, suc, Option, Some, None, List, [], ◌∷◌, ◌++◌, map, All, Contains, length, get_or, slice_get, slice_index, refl}
+use Rattle.std.proofs.Common.{◌≡◌, ◌<◌, ◌+◌, ℕ, suc, Option, Some, None, List, [], ◌∷◌, ◌++◌, map, All, Contains, length, slice_get, slice_index, refl}
 use Rattle.std.proofs.Common.{sym, subst, ap, ◌∙◌, arith}
 use Rattle.std.proofs.lemmas.List.Elements.{All-push, All-weaker, All-nil, All-cons}
 use Rattle.wire_msg.specs.Words.{Envelope, Sent}
 use Rattle.overlay_rules.specs.declared.entry.Event.{Event}
 use Rattle.overlay_rules.specs.declared.entry.Event.TheVariants as event
 use Rattle.overlay_rules.specs.declared.entry.Entry.{Entry}
-use Rattle.overlay_rules.specs.Outcome.{Input}
+use Rattle.overlay_rules.specs.Outcome.{Input, Comes, Command as ToldCommand, Noise as NoFrame}
+use Rattle.wire_msg.specs.declared.command.Command.{Command}
 use Rattle.overlay_rules.specs.Step.{step}
 use Rattle.overlay_rules.specs.Record.{World, visit, visit_of, sent_in, unstamped, enveloped, IsSaidBy, IsFresh, IsFreshAfter, Follows, IsRecord, states_after}
 use Rattle.overlay_rules.specs.Record.{state_at, world_at_start}
 use Rattle.overlay_rules.specs.Played.{entry_at, entry_of, happened, oldest_undelivered}
 use Rattle.overlay_rules.proofs.Histories.{run-push, past_of_run, LegalFrom-push}
 use Rattle.world_model.specs.Recorded.{Recorded, setting_of, world_of, with_event}
-use Rattle.step_facts.specs.Receivers.{ViaIs, ViasAre}
+use Rattle.step_facts.specs.Receivers.{ReceiversAre, ViaIs, ViasAre}
+use Rattle.step_facts.proofs.Receivers.{receivers_are_nodes}
 use Rattle.world_model.specs.Numbers.{IsNumberedBelow, IsNewest}
 use Rattle.world_model.specs.Stamps.{AreStamped, AreStampedFrom}
 use Rattle.world_model.specs.Worlds.{IsWorld, ComesTo, entry_by}
 use Rattle.world_model.specs.Cells.{AllStand}
-use Rattle.world_model.specs.Index.{ListsMessages, DeliversBelow, oldest_of}
+use Rattle.world_model.specs.Index.{ListsMessages, IsBelow, delivered_by, oldest_of}
 use Rattle.world_model.specs.declared.index.Messages.{Messages}
 use Rattle.world_model.proofs.Finding.{index-or}
-use Rattle.world_model.proofs.Listing.{oldest-listed, get-within}
+use Rattle.world_model.proofs.Listing.{oldest-listed, get-within, get-some, receiver-at}
 use Rattle.node_parts.specs.declared.node.Node.{Node}
 
 -- ---- the world after it
@@ -118,39 +120,65 @@ stamps-with_event r v x i e h =
 
 -- ---- what a world keeps
 
-pub oldest-of : (r : Recorded) (a : Messages) → ListsMessages a r.entries → oldest_of a ≡ oldest_undelivered (world_of r)
-oldest-of r a h = oldest-listed (world_of r) a (subst (ListsMessages a) (sym (past-of r)) h)
+pub oldest-of : (r : Recorded) (a : Messages) → ListsMessages a r.nodes r.entries → oldest_of a ≡ oldest_undelivered (world_of r)
+oldest-of r a h = oldest-listed (world_of r) a r.nodes (subst (ListsMessages a r.nodes) (sym (past-of r)) h)
 
-pub IsWorld-with_event : (nodes new : List Node) (a b : Messages) (r : Recorded) (v : Event) (place : ℕ) (i : Input) → IsWorld nodes a r → ComesTo r v place i →
-    IsFresh r.entries v → IsSaidBy v → ViaIs (setting_of r) v →
-    AllStand new (state_at (world_of r).states (slice_index r.nodes place) (step ((world_of r).states (slice_index r.nodes place)) i).state) →
-    ListsMessages b (r.entries ++ entry_by (length r.entries + 1) (slice_index r.nodes place) v (step ((world_of r).states (slice_index r.nodes place)) i) ∷ [])
-    →
-    IsWorld new b (with_event r v)
-IsWorld-with_event nodes new a b r v place i w c f s m st l =
-    let x : ℕ = slice_index r.nodes place in
-    let is : entry_of (world_of r) v ≡ entry_by (length r.entries + 1) x v (step ((world_of r).states x) i) = entry-of r v x i c.is_at in
-    record {
-      legal = record-with_event r v x i c.is_at (Contains-index r.nodes place c.within) f s w.legal;
-      vias = vias-with_event r v x i c.is_at m w.vias;
-      stamps = stamps-with_event r v x i c.is_at w.stamps;
-      stand = subst (AllStand new) (sym (states-with_event r v x i c.is_at)) st;
-      listed = subst (λ (e : Entry). ListsMessages b (r.entries ++ e ∷ [])) (sym is) l;
-    }
+-- after the event the record is legal, and its joiners go by nodes
+pub legal-with_event : (nodes : List Node) (a : Messages) (r : Recorded) (v : Event) (place : ℕ) → IsWorld nodes a r → ComesTo r v place →
+    IsFresh r.entries v → IsSaidBy v → IsRecord (setting_of r) (with_event r v).entries
+legal-with_event nodes a r v place w c f s =
+    record-with_event r v (slice_index r.nodes place) c.input c.is_at (Contains-index r.nodes place c.within) f s w.legal
   where
     Contains-index : (xs : List ℕ) (k : ℕ) → k < length xs → Contains xs (slice_index xs k)
     Contains-index xs k l = (k, l, index-or xs k (slice_index xs k) l)
 
+pub IsWorld-with_event : (nodes new : List Node) (a b : Messages) (r : Recorded) (v : Event) (place : ℕ) → IsWorld nodes a r → (c : ComesTo r v place) →
+    IsFresh r.entries v → IsSaidBy v → ViaIs (setting_of r) v →
+    AllStand new (state_at (world_of r).states (slice_index r.nodes place) (step ((world_of r).states (slice_index r.nodes place)) c.input).state) →
+    ListsMessages b r.nodes (with_event r v).entries → IsWorld new b (with_event r v)
+IsWorld-with_event nodes new a b r v place w c f s m st l =
+    record {
+      legal = legal-with_event nodes a r v place w c f s;
+      vias = vias-with_event r v (slice_index r.nodes place) c.input c.is_at m w.vias;
+      stamps = stamps-with_event r v (slice_index r.nodes place) c.input c.is_at w.stamps;
+      stand = subst (AllStand new) (sym (states-with_event r v (slice_index r.nodes place) c.input c.is_at)) st;
+      listed = l;
+    }
+
+-- its receivers are nodes
+pub receivers-with_event : (nodes : List Node) (a : Messages) (r : Recorded) (v : Event) (place : ℕ) → IsWorld nodes a r → ComesTo r v place →
+    IsFresh r.entries v → IsSaidBy v → ViaIs (setting_of r) v → ReceiversAre (setting_of r) (with_event r v).entries
+receivers-with_event nodes a r v place w c f s m =
+    receivers_are_nodes (setting_of r) (with_event r v).entries (legal-with_event nodes a r v place w c f s)
+    (vias-with_event r v (slice_index r.nodes place) c.input c.is_at m w.vias)
+
 -- an event comes from what was sent
-pub comes-below : (r : Recorded) (v : Event) (place : ℕ) (i : Input) → ComesTo r v place i → DeliversBelow (length (sent_in r.entries)) v
-comes-below r (event.Deliver m) place i c = found (slice_get (sent_in r.entries) m) refl c.is_at where
-  found : (o : Option Envelope) → slice_get (sent_in r.entries) m ≡ o → visit_of o ≡ Some (record { node = slice_index r.nodes place; input = i }) →
+pub comes-below : (r : Recorded) (v : Event) (place : ℕ) → ComesTo r v place → IsBelow (length (sent_in r.entries)) (delivered_by v)
+comes-below r (event.Deliver m) place c = found (slice_get (sent_in r.entries) m) refl c.is_at where
+  found : (o : Option Envelope) → slice_get (sent_in r.entries) m ≡ o → visit_of o ≡ Some (record { node = slice_index r.nodes place; input = c.input }) →
       m < length (sent_in r.entries)
   found None h k = cc
   found (Some v) h k = get-within (sent_in r.entries) m v h
-comes-below r (event.Command x n d) place i c = tt
-comes-below r (event.Noise x) place i c = tt
+comes-below r (event.Command x n d) place c = tt
+comes-below r (event.Noise x) place c = tt
 
-pub get_or-last : {A : Type 0} (xs : List A) (y d : A) → get_or (xs ++ y ∷ []) (length xs) d ≡ y
-get_or-last [] y d = refl
-get_or-last (x ∷ xs) y d = get_or-last xs y d
+-- a command and noise come to their node's place
+pub command-comes : (r : Recorded) (x n : ℕ) (d : Command) (place : ℕ) → place < length r.nodes → slice_index r.nodes place ≡ x →
+    ComesTo r (event.Command x n d) place
+command-comes r x n d place l e =
+    record { within = l; input = ToldCommand n d; is_at = ap (λ y. Some (record { node = y; input = ToldCommand n d })) (sym e) }
+
+pub noise-comes : (r : Recorded) (x place : ℕ) → place < length r.nodes → slice_index r.nodes place ≡ x → ComesTo r (event.Noise x) place
+noise-comes r x place l e = record { within = l; input = NoFrame; is_at = ap (λ y. Some (record { node = y; input = NoFrame })) (sym e) }
+
+-- a message that was sent comes to its receiver's place
+pub delivery-comes : (nodes : List Node) (a : Messages) (r : Recorded) (m : ℕ) → IsWorld nodes a r → m < length (sent_in r.entries) →
+    ComesTo r (event.Deliver m) (slice_index a.receivers.items m)
+delivery-comes nodes a r m w l =
+    let found = get-some (sent_in r.entries) m l in
+    let at = receiver-at a.receivers.items r.nodes (sent_in r.entries) m found.0 w.listed.receivers found.1 in
+    record {
+      within = at.0;
+      input = Comes found.0.sender found.0.message;
+      is_at = ap visit_of found.1 ∙ ap (λ x. Some (record { node = x; input = Comes found.0.sender found.0.message })) (sym at.1);
+    }

@@ -3,16 +3,11 @@ use Rattle.std.specs.Prelude.{◌≡◌, ◌<◌, ℕ, Some, List, length, slice
 use Rattle.ring_math.specs.Names.{Id, Stamp}
 use Rattle.overlay_rules.specs.declared.entry.Event.{Event}
 use Rattle.overlay_rules.specs.declared.entry.Entry.{Entry}
-use Rattle.overlay_rules.specs.State.{State}
 use Rattle.overlay_rules.specs.Outcome.{Input, Outcome}
-use Rattle.overlay_rules.specs.Step.{step}
 use Rattle.overlay_rules.specs.Record.{IsRecord, sent_in, visit, enveloped}
 use Rattle.step_facts.specs.Receivers.{ViasAre}
 use Rattle.node_parts.specs.declared.node.Node.{Node}
-use Rattle.node_parts.specs.Change.{changed}
-use Rattle.node_parts.specs.Sound.{IsSound}
 use Rattle.world_model.specs.declared.index.Messages.{Messages}
-use Rattle.world_model.specs.declared.plan.Planned.{Planned}
 use Rattle.world_model.specs.Recorded.{Recorded, setting_of, world_of}
 use Rattle.world_model.specs.Stamps.{AreStamped}
 use Rattle.world_model.specs.Cells.{AllStand}
@@ -24,19 +19,14 @@ pub record IsWorld (nodes : List Node) (messages : Messages) (r : Recorded) : Ty
   pub vias : ViasAre (setting_of r) r.entries
   pub stamps : AreStamped r.entries
   pub stand : AllStand nodes (world_of r).states
-  pub listed : ListsMessages messages r.entries
+  pub listed : ListsMessages messages r.nodes r.entries
 
--- the event comes to the node at this place as this input
-pub record ComesTo (r : Recorded) (v : Event) (place : ℕ) (i : Input) : Type 0 where
+-- the event comes to the node at this place
+pub record ComesTo (r : Recorded) (v : Event) (place : ℕ) : Type 0 where
   pub within : place < length r.nodes
-  pub is_at : visit (sent_in r.entries) v ≡ Some (record { node = slice_index r.nodes place; input = i })
+  pub input : Input
+  pub is_at : visit (sent_in r.entries) v ≡ Some (record { node = slice_index r.nodes place; input = input })
 
 -- the entry of a step of node x
 abbrev pub entry_by : Stamp → Id → Event → Outcome → Entry
 entry_by stamp x v o = record { event = v; messages = map (enveloped stamp x) o.sends; notes = o.notes }
-
--- the change and the entry are those of the step of node x
-pub record IsPlanned (states : Id → State) (x : Id) (i : Input) (stamp : Stamp) (v : Event) (p : Planned) : Type 0 where
-  pub state : changed p.change (states x) ≡ (step (states x) i).state
-  pub sound : IsSound (step (states x) i).state
-  pub entry : p.entry ≡ entry_by stamp x v (step (states x) i)

@@ -84,7 +84,7 @@ impl Cells {
         &mut self,
         place: usize,
         alloc: Global,
-        input: &Input,
+        input: &Input<'_>,
     ) -> Result<Prepared, OutOfMemory>
         requires { place < length (ids_of self.old) }
         ensures ids { ids_of self.new ≡ ids_of self.old }
@@ -149,7 +149,7 @@ fn prepare_at(
     nodes: &mut Vec<Node>,
     place: usize,
     alloc: Global,
-    input: &Input,
+    input: &Input<'_>,
 ) -> Result<Prepared, OutOfMemory>
     requires { place < vec_len nodes.old }
     ensures ids { ids_of nodes.new.items ≡ ids_of nodes.old.items }

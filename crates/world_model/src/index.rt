@@ -1,26 +1,25 @@
-//! The messages of a record: where each stands in the entries, and which of them were delivered.
+//! The messages of a record: whom each goes to, and which of them were delivered.
 
-ghost use Rattle.std.specs.Prelude.{◌≡◌, ◌<◌, ◌≤◌, ◌+◌, ◌++◌, ◌∷◌, [], ℕ, List, length, vec_len, vec_capacity, OnOk, Some, true, false, replicate, slice_get};
-ghost use Rattle.std.specs.Prelude.{slice_index_or};
+ghost use Rattle.std.specs.Prelude.{◌≡◌, ◌<◌, ◌≤◌, ◌+◌, ◌-◌, ◌++◌, ◌∷◌, [], ℕ, List, All, Contains, OnOk, length, map, replicate, slice_index, slice_index_or, take};
+ghost use Rattle.std.specs.Prelude.{true, false, vec_capacity, vec_len};
+ghost use Rattle.ring_math.specs.Names.{Id as PlainId};
+ghost use Rattle.wire_msg.specs.Words.{plain_envelope};
 ghost use Rattle.overlay_rules.specs.declared.entry.Entry.{Entry as PlainEntry};
 ghost use Rattle.overlay_rules.specs.Record.{sent_in};
-ghost use Rattle.world_model.specs.Index.{DeliversBelow, HasRoom, ListsMessages, marked, oldest_of, spots_from};
+ghost use Rattle.world_model.specs.Cells.{ids_of};
+ghost use Rattle.world_model.specs.Index.{ArePlaces, HasRoom, IsBelow, ListsMessages, delivered_by, marked, oldest_of, receivers_of};
 
-use overlay_rules::{Entry, Event};
+use crate::cells::Cells;
+use overlay_rules::Event;
 use ring_math::OutOfMemory;
 use std::alloc::Global;
-
-/// Where an envelope stands: in which entry, and where among what that entry sent.
-#[derive(Clone, Copy, PartialEq, Eq, Debug)]
-pub(crate) struct Spot {
-    pub(crate) entry: usize,
-    pub(crate) place: usize,
-}
+use wire_msg::Envelope;
 
 /// The messages that were sent, in order: message n is the n-th, from 0.
 #[derive(Drop)]
 pub(crate) struct Messages {
-    pub(crate) spots: Vec<Spot>,
+    /// The place of each one's receiver among the nodes.
+    pub(crate) receivers: Vec<usize>,
     /// Whether each was delivered.
     pub(crate) delivered: Vec<bool>,
     /// The first that was not delivered, or their number. It only moves on.
@@ -30,10 +29,10 @@ pub(crate) struct Messages {
 impl Messages {
     /// No message. It takes no memory.
     pub(crate) fn new(alloc: Global) -> Messages
-        ensures { ListsMessages result [] }
+        ensures { (nodes : List PlainId) → ListsMessages result nodes [] }
     {
         Messages {
-            spots: Vec::new(alloc),
+            receivers: Vec::new(alloc),
             delivered: Vec::new(alloc),
             oldest: 0,
         }
@@ -41,17 +40,17 @@ impl Messages {
 
     /// How many there are.
     pub(crate) fn len(&self) -> usize
-        ensures { result ≡ vec_len self.now.spots }
+        ensures { result ≡ vec_len self.now.delivered }
     {
-        self.spots.len()
+        self.delivered.len()
     }
 
-    /// Where a message stands.
-    pub(crate) fn spot(&self, message: usize) -> Spot
-        requires { message < vec_len self.now.spots }
-        ensures { slice_get self.now.spots.items message ≡ Some result }
+    /// The place of a message's receiver.
+    pub(crate) fn receiver(&self, message: usize) -> usize
+        requires { message < vec_len self.now.receivers }
+        ensures { result ≡ slice_index self.now.receivers.items message }
     {
-        self.spots[message]
+        self.receivers[message]
     }
 
     /// The first that was not delivered.
@@ -67,55 +66,66 @@ impl Messages {
 
     /// Room for so many more.
     pub(crate) fn reserve(&mut self, count: usize) -> Result<(), OutOfMemory>
-        ensures kept { (es : List PlainEntry) → ListsMessages self.old es → ListsMessages self.new es }
+        ensures kept { (nodes : List PlainId) (es : List PlainEntry) → ListsMessages self.old nodes es → ListsMessages self.new nodes es }
         ensures room { OnOk result (HasRoom self.new count) }
     {
-        self.spots.reserve(count)?;
+        self.receivers.reserve(count)?;
         self.delivered.reserve(count)?;
         Ok(())
     }
 
-    /// The messages with those of one more entry. It takes no memory: room was made for them.
-    pub(crate) fn add(&mut self, entry: &Entry, number: usize)
-        requires room { HasRoom self.old (length entry.now.messages) }
-        requires sent { DeliversBelow (vec_len self.old.delivered) entry.now.event }
-        ensures { (es : List PlainEntry) → ListsMessages self.old es → length es ≡ number → ListsMessages self.new (es ++ entry.now ∷ []) }
+    /// The messages with those of one more entry, which stand at the end of all that was sent. It takes no memory: room was
+    /// made for them.
+    pub(crate) fn add(&mut self, cells: &Cells, delivered: Option<u64>, sent: &[Envelope])
+        requires more { vec_len self.old.receivers ≤ length sent.now }
+        requires same { vec_len self.old.receivers ≡ vec_len self.old.delivered }
+        requires room { HasRoom self.old (length sent.now - vec_len self.old.receivers) }
+        requires below { IsBelow (vec_len self.old.delivered) delivered }
+        requires nodes { All (λ v. Contains (ids_of cells.now) v.receiver) (map plain_envelope sent.now) }
+        ensures { (es : List PlainEntry) (e : PlainEntry) → ListsMessages self.old (ids_of cells.now) es → delivered ≡ delivered_by e.event →
+            map plain_envelope sent.now ≡ sent_in (es ++ e ∷ []) → ListsMessages self.new (ids_of cells.now) (es ++ e ∷ []) }
     {
-        let count = entry.messages.as_slice().len();
-        mark(&mut self.delivered, &entry.event);
-        add_spots(&mut self.spots, number, count);
+        mark(&mut self.delivered, delivered);
+        let count = sent.len() - self.receivers.len();
         add_marks(&mut self.delivered, count);
+        add_receivers(&mut self.receivers, cells, sent);
         self.oldest = first_unmarked(&self.delivered, self.oldest);
     }
 }
 
-/// Marks the message that an event delivers.
-fn mark(marks: &mut Vec<bool>, event: &Event)
-    requires { DeliversBelow (vec_len marks.old) event.now }
-    ensures items { marks.new.items ≡ marked event.now marks.old.items }
+/// The message that an event delivers.
+pub(crate) fn delivered_message(event: &Event) -> Option<u64>
+    ensures { result ≡ delivered_by event.now }
+{
+    match event {
+        Event::Deliver { message } => Some(*message),
+        Event::Command { .. } | Event::Noise { .. } => None,
+    }
+}
+
+/// Marks a message that is delivered.
+fn mark(marks: &mut Vec<bool>, message: Option<u64>)
+    requires { IsBelow (vec_len marks.old) message }
+    ensures items { marks.new.items ≡ marked message marks.old.items }
     ensures room { vec_capacity marks.new ≡ vec_capacity marks.old }
 {
-    if let Event::Deliver { message } = event {
-        marks[*message as usize] = true;
+    if let Some(message) = message {
+        marks[message as usize] = true;
     }
 }
 
-fn add_spots(spots: &mut Vec<Spot>, entry: usize, count: usize)
-    requires { vec_len spots.old + count ≤ vec_capacity spots.old }
-    ensures { spots.new.items ≡ spots.old.items ++ spots_from entry 0 count }
+/// The places of the receivers of all that was sent, beyond those that are there.
+fn add_receivers(receivers: &mut Vec<usize>, cells: &Cells, sent: &[Envelope])
+    requires more { vec_len receivers.old ≤ length sent.now }
+    requires room { length sent.now ≤ vec_capacity receivers.old }
+    requires nodes { All (λ v. Contains (ids_of cells.now) v.receiver) (map plain_envelope sent.now) }
+    ensures { ArePlaces receivers.old.items (ids_of cells.now) (receivers_of (take (vec_len receivers.old) (map plain_envelope sent.now))) →
+        ArePlaces receivers.new.items (ids_of cells.now) (receivers_of (map plain_envelope sent.now)) }
 {
-    for place in 0..count {
-        add_spot(spots, Spot { entry, place });
+    for message in receivers.len()..sent.len() {
+        let envelope = &sent[message];
+        receivers.push_reserved(cells.place(envelope.receiver));
     }
-}
-
-fn add_spot(spots: &mut Vec<Spot>, spot: Spot)
-    requires { vec_len spots.old < vec_capacity spots.old }
-    ensures items { spots.new.items ≡ spots.old.items ++ spot ∷ [] }
-    ensures len { vec_len spots.new ≡ vec_len spots.old + 1 }
-    ensures room { vec_capacity spots.old ≤ vec_capacity spots.new }
-{
-    let _ = spots.push(spot);
 }
 
 fn add_marks(marks: &mut Vec<bool>, count: usize)

@@ -6,12 +6,10 @@
 #![tactic(auto)]
 
 mod cells;
-mod envelopes;
 mod index;
-mod plan;
 mod world;
 
-pub use overlay_rules::{Entries, Entry, Event, Record};
+pub use overlay_rules::{Entries, Entry, EntryRef, Event, EventRef, Record};
 pub use world::World;
 
 #[cfg(test)]

@@ -4,11 +4,12 @@ ghost use Rattle.std.specs.Prelude.{◌≡◌, Contains};
 ghost use Rattle.std.specs.Bool.{OnTrue};
 ghost use Rattle.overlay_rules.specs.declared.entry.Event.TheVariants as event;
 ghost use Rattle.overlay_rules.specs.Record.{IsSetting};
+ghost use Rattle.overlay_rules.specs.Seen.{event_seen};
 ghost use Rattle.step_facts.specs.Receivers.{ViaIs};
 ghost use Rattle.world_model.specs.Numbers.{IsNewest, IsNumberedBelow};
 ghost use Rattle.world_model.specs.Recorded.{setting_of};
 
-use crate::{Entry, Event, World};
+use crate::{Entries, EventRef, World};
 use coverage::Hop;
 use ring_math::{Bytes, FileId, Id};
 use std::alloc::Global;
@@ -72,19 +73,31 @@ fn goes_by_known(world: &World, nodes: &[Id], node: Id, number: u64, command: &C
     }
 }
 
-fn is_below(event: &Event, number: u64) -> bool
-    ensures { OnTrue result (IsNumberedBelow number event.now) }
+fn is_below(event: &EventRef<'_>, number: u64) -> bool
+    ensures { OnTrue result (IsNumberedBelow number (event_seen event.now)) }
 {
     match event {
-        Event::Command { number: other, .. } => *other < number,
-        Event::Deliver { .. } | Event::Noise { .. } => true,
+        EventRef::Command { number: other, .. } => *other < number,
+        EventRef::Deliver { .. } | EventRef::Noise { .. } => true,
     }
 }
 
-fn is_newest(entries: &[Entry], number: u64) -> bool
+fn is_newest(entries: &Entries, number: u64) -> bool
     ensures { OnTrue result (IsNewest number entries.now) }
 {
-    entries.iter().all(|entry| is_below(&entry.event, number))
+    for place in 0..entries.len() {
+        let event = entries.at(place).event;
+        // The command is named, since the prover has to see its type.
+        if let EventRef::Command {
+            command: _command,
+            ..
+        } = event
+        {}
+        if !is_below(&event, number) {
+            return false;
+        }
+    }
+    true
 }
 
 /// The file that is named f, without owner and salt.
@@ -130,7 +143,7 @@ impl Trial {
     fn command(&mut self, alloc: Global, node: Id, command: &Command) -> Result<(), Fail> {
         let number = self.number.saturating_add(1);
         self.number = number;
-        if !is_known(&self.nodes, node) || !is_newest(self.world.entries().as_slice(), number) {
+        if !is_known(&self.nodes, node) || !is_newest(self.world.entries(), number) {
             return Err("no such node, or no new number")?;
         }
         if !goes_by_known(&self.world, &self.nodes, node, number, command) {
@@ -177,30 +190,21 @@ impl Trial {
 
     /// Whether so many entries stand, so many messages were sent, and each was delivered.
     fn has_settled(&self, entries: usize, sent: u64) -> bool {
-        self.world.entries().as_slice().len() == entries
+        self.world.entries().len() == entries
             && self.world.sent_len() == sent
             && self.world.oldest_undelivered().is_none()
     }
 
     /// The kinds of all messages, in order, with their receivers.
     fn has_sent(&self, kinds: &[(&str, Id)]) -> bool {
-        let mut place: usize = 0;
-        for entry in self.world.entries().as_slice() {
-            let envelopes = entry.messages.as_slice();
-            if !are_of_kinds(envelopes, kinds, place) {
-                return false;
-            }
-            place = place.saturating_add(envelopes.len());
-        }
-        place == kinds.len()
+        are_of_kinds(self.world.entries().sent(), kinds)
     }
 
     /// Whether each envelope of the n-th entry has stamp n.
     fn is_stamped(&self) -> bool {
-        let mut stamp: u64 = 0;
-        for entry in self.world.entries().as_slice() {
-            stamp = stamp.saturating_add(1);
-            if !are_stamped(entry.messages.as_slice(), stamp) {
+        let entries = self.world.entries();
+        for place in 0..entries.len() {
+            if !are_stamped(entries.at(place).messages, place as u64 + 1) {
                 return false;
             }
         }
@@ -209,8 +213,7 @@ impl Trial {
 
     /// Whether the command with this number was closed so.
     fn is_closed(&self, number: u64, answer: &str) -> bool {
-        let entries = self.world.entries().as_slice();
-        entries.iter().any(|entry| are_closing(entry.notes.as_slice(), number, answer))
+        are_closing(self.world.entries().notes(), number, answer)
     }
 
     /// Where a node sends what is for a key.
@@ -240,15 +243,13 @@ fn hop_in_ring(from: Id, to: Id) -> Hop {
     if from == to { Hop::Here } else { Hop::To(to) }
 }
 
-fn are_of_kinds(envelopes: &[Envelope], kinds: &[(&str, Id)], from: usize) -> bool {
-    let mut place = from;
-    for envelope in envelopes {
-        if !is_of_kind(envelope, kinds, place) {
+fn are_of_kinds(envelopes: &[Envelope], kinds: &[(&str, Id)]) -> bool {
+    for place in 0..envelopes.len() {
+        if !is_of_kind(&envelopes[place], kinds, place) {
             return false;
         }
-        place = place.saturating_add(1);
     }
-    true
+    envelopes.len() == kinds.len()
 }
 
 fn is_of_kind(envelope: &Envelope, kinds: &[(&str, Id)], place: usize) -> bool {
@@ -482,6 +483,6 @@ fn noise_is_one_entry(rt: HostRuntime) -> Result<(), Fail> {
     }
     assert!(rt; trial.world.sent_len() == 1 && trial.world.oldest_undelivered() == Some(0));
     let record = trial.world.finish(3);
-    assert!(rt; record.entries.as_slice().len() == 2 && record.skipped == 3);
+    assert!(rt; record.entries.len() == 2 && record.skipped == 3);
     Ok(())
 }

@@ -1,9 +1,8 @@
 //! The world and its events.
 
-ghost use Rattle.std.specs.Prelude.{◌≡◌, ◌<◌, ℕ, Some, [], Contains, IfOk, OnOk, OnErr, MatchBool, nat_lt, length, slice_get, slice_index_or};
-ghost use Rattle.wire_msg.specs.Words.{plain_envelope};
+ghost use Rattle.std.specs.Prelude.{◌≡◌, ◌<◌, ℕ, Some, [], Contains, IfOk, OnOk, OnErr, MatchBool, nat_lt, length};
 ghost use Rattle.overlay_rules.specs.declared.entry.Event.TheVariants as event;
-ghost use Rattle.overlay_rules.specs.Record.{IsFresh, IsRecord, IsSetting, sent_in};
+ghost use Rattle.overlay_rules.specs.Record.{IsFresh, IsRecord, IsSetting, Visit, sent_in, visit};
 ghost use Rattle.overlay_rules.specs.Played.{oldest_undelivered};
 ghost use Rattle.step_facts.specs.Receivers.{ReceiversAre, ViaIs};
 ghost use Rattle.node_parts.specs.Views.{hop_of};
@@ -11,18 +10,18 @@ ghost use Rattle.node_core.specs.Inputs.{plain_input};
 ghost use Rattle.world_model.specs.Recorded.{setting_of, with_event, world_of};
 ghost use Rattle.world_model.specs.Numbers.{IsNewest};
 ghost use Rattle.world_model.specs.Stamps.{AreStamped};
+ghost use Rattle.world_model.specs.Index.{IsBelow, delivered_by};
 ghost use Rattle.world_model.specs.Worlds.{ComesTo};
 
 use crate::cells::Cells;
-use crate::index::Messages;
-use crate::plan::{Planned, plan};
+use crate::index::{Messages, delivered_message};
 use coverage::Hop;
-use node_core::Input;
-use overlay_rules::{Entries, Entry, Event, Record};
+use node_core::{Input, Prepared};
+use overlay_rules::{Entries, Event, Record};
 use ring_math::{Id, OutOfMemory};
 use std::alloc::Global;
 use std::marker::Model;
-use wire_msg::{Command, Envelope};
+use wire_msg::Command;
 
 /// Nodes, and the record of all that happened among them.
 #[derive(Drop)]
@@ -43,13 +42,6 @@ impl Model for World {
     ghost view = { λ a. record { nodes = ids_of a.cells; founder = a.founder; entries = a.entries } };
 
     ghost invariant = { λ a. IsWorld a.cells a.messages (record { nodes = ids_of a.cells; founder = a.founder; entries = a.entries }) };
-}
-
-/// The node that an event comes to, and what comes to it.
-#[derive(Drop)]
-struct Arrival {
-    place: usize,
-    input: Input,
 }
 
 impl World {
@@ -82,16 +74,12 @@ impl World {
         ensures err { OnErr result (self.new ≡ self.old) }
     {
         let place = self.cells.place(node);
-        let input = Input::Command {
-            number,
-            command: command.copy(alloc)?,
-        };
         let event = Event::Command {
             node,
             number,
             command: command.copy(alloc)?,
         };
-        self.happen(alloc, place, &input, event)
+        self.happen(alloc, place, event)
     }
 
     /// A message, counted from 0 over all that were sent, comes to its receiver. The answer is false, with nothing changed,
@@ -106,8 +94,8 @@ impl World {
         if message >= self.sent_len() {
             return Ok(false);
         }
-        let Arrival { place, input } = self.arrival(alloc, message)?;
-        self.happen(alloc, place, &input, Event::Deliver { message })?;
+        let place = self.messages.receiver(message as usize);
+        self.happen(alloc, place, Event::Deliver { message })?;
         Ok(true)
     }
 
@@ -118,7 +106,7 @@ impl World {
         ensures err { OnErr result (self.new ≡ self.old) }
     {
         let place = self.cells.place(node);
-        self.happen(alloc, place, &Input::Noise, Event::Noise { node })
+        self.happen(alloc, place, Event::Noise { node })
     }
 
     /// How many messages were sent.
@@ -168,77 +156,54 @@ impl World {
         self.cells.next_hop(self.cells.place(node), key)
     }
 
-    /// A message that was sent, in its envelope.
-    fn envelope(&self, message: u64) -> &Envelope
-        requires { message < length (sent_in self.now.entries) }
-        ensures sent { slice_get (sent_in self.now.entries) message ≡ Some (plain_envelope result.now) }
-        ensures receiver { Contains self.now.nodes result.now.receiver }
-    {
-        let spot = self.messages.spot(message as usize);
-        let entry = entry_at(self.entries.as_slice(), spot.entry);
-        envelope_at(entry.messages.as_slice(), spot.place)
-    }
-
-    /// Where a message that was sent comes to.
-    fn arrival(&self, alloc: Global, message: u64) -> Result<Arrival, OutOfMemory>
-        requires { message < length (sent_in self.now.entries) }
-        ensures { IfOk result (λ a. ComesTo self.now (event.Deliver message) a.place (plain_input a.input)) }
-    {
-        let envelope = self.envelope(message);
-        let place = self.cells.place(envelope.receiver);
-        let message = envelope.message.copy(alloc)?;
-        Ok(Arrival {
-            place,
-            input: Input::Message {
-                sender: envelope.sender,
-                message,
-            },
-        })
-    }
-
     /// An event comes to the node at a place: its step is made, and its entry is added.
-    fn happen(
-        &mut self,
-        alloc: Global,
-        place: usize,
-        input: &Input,
-        event: Event,
-    ) -> Result<(), OutOfMemory>
-        requires comes { ComesTo self.old event place (plain_input input.now) }
+    fn happen(&mut self, alloc: Global, place: usize, event: Event) -> Result<(), OutOfMemory>
+        requires comes { ComesTo self.old event place }
         requires fresh { IsFresh self.old.entries event }
         requires via { ViaIs (setting_of self.old) event }
         ensures ok { OnOk result (self.new ≡ with_event self.old event) }
         ensures err { OnErr result (self.new ≡ self.old) }
     {
         event.said_law();
-        let number = self.entries.as_slice().len();
-        let Planned { change, entry } = plan(
-            &mut self.cells,
-            alloc,
-            place,
-            input,
-            event,
-            number as u64 + 1,
-        )?;
-        self.messages.reserve(entry.messages.as_slice().len())?;
-        self.entries.push(entry)?;
+        let delivered = delivered_message(&event);
+        let input = input_of(&event, &self.entries);
+        let Prepared {
+            messages,
+            notes,
+            change,
+        } = self.cells.prepare(place, alloc, &input)?;
+        self.messages.reserve(messages.as_slice().len())?;
+        let stamp = self.entries.next_stamp();
+        self.entries
+            .add(event, stamp, self.cells.id(place), messages, notes)?;
         self.cells.commit(place, change);
         self.messages
-            .add(entry_at(self.entries.as_slice(), number), number);
+            .add(&self.cells, delivered, self.entries.sent());
         Ok(())
     }
 }
 
-fn entry_at(entries: &[Entry], place: usize) -> &Entry
-    requires { place < length entries.now }
-    ensures { result.now ≡ slice_index_or entries.now place result.now }
+/// What comes to the node of an event.
+fn input_of<'a>(event: &'a Event, entries: &'a Entries) -> Input<'a>
+    requires { IsBelow (length (sent_in entries.now)) (delivered_by event.now) }
+    ensures { (at : Visit) → visit (sent_in entries.now) event.now ≡ Some at → plain_input result ≡ at.input }
 {
-    &entries[place]
-}
-
-fn envelope_at(envelopes: &[Envelope], place: usize) -> &Envelope
-    requires { place < length envelopes.now }
-    ensures { result.now ≡ slice_index_or envelopes.now place result.now }
-{
-    &envelopes[place]
+    match event {
+        Event::Command {
+            number,
+            command,
+            ..
+        } => Input::Command {
+            number: *number,
+            command,
+        },
+        Event::Deliver { message } => {
+            let envelope = &entries.sent()[*message as usize];
+            Input::Message {
+                sender: envelope.sender,
+                message: &envelope.message,
+            }
+        }
+        Event::Noise { .. } => Input::Noise,
+    }
 }

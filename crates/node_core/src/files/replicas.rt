@@ -14,7 +14,7 @@ use file_store::Put;
 use node_parts::{Change, Node, PastChange, Prepared, StoreChange, Wait};
 use overlay_rules::Asked;
 use past_core::Ack;
-use ring_math::{Bytes, FileId, Id, Ids, MOST_MEMBERS, OutOfMemory};
+use ring_math::{Bytes, FileId, Id, Ids, IdsBuilder, MOST_MEMBERS, OutOfMemory};
 use std::alloc::Global;
 use wire_msg::{Message, Reply};
 
@@ -71,12 +71,12 @@ fn holders_of(alloc: Global, me: Id, targets: &Ids) -> Result<Option<Ids>, OutOf
     if targets.as_slice().len() >= MOST_MEMBERS {
         return Ok(None);
     }
-    let mut holders = Ids::with_room(alloc)?;
+    let mut holders = IdsBuilder::new();
     holders.push(me);
     for target in targets.as_slice() {
         holders.push(*target);
     }
-    Ok(Some(holders))
+    Ok(Some(holders.finish(alloc)?))
 }
 
 /// The insert at this place is over: each replica is held.

@@ -131,7 +131,7 @@ pub(crate) fn on_grant(
     tombs: &FileIds,
 ) -> Result<Prepared, OutOfMemory>
     ensures { (known : List ℕ) → Shows node.now known → IfOk result (λ p. Plans (seen node.now known) p
-        (on_grant_of (seen node.now known) from attempt (record { manifest = manifest.now.files; tombs = tombs.now.files }))) }
+        (on_grant_of (seen node.now known) from attempt (record { manifest = manifest.now; tombs = tombs.now }))) }
 {
     let mut joiner = node.seat.joiner().copy(alloc)?;
     match joiner.on_grant(from, attempt) {

@@ -106,8 +106,8 @@ fn lists_held(alloc: Global, lease: &Option<Lease>) -> Result<Pledge, OutOfMemor
     match lease {
         Some(lease) => lease.lists.copy(alloc),
         None => {
-            let manifest = FileIds::with_room(alloc, 0)?;
-            let tombs = FileIds::with_room(alloc, 0)?;
+            let manifest = FileIds::copy_of(alloc, &[])?;
+            let tombs = FileIds::copy_of(alloc, &[])?;
             Ok(Pledge::new(manifest, tombs))
         }
     }

@@ -1,9 +1,36 @@
 //! Inputs made by hand: nodes, a file, and messages about it.
 
-use ring_math::{Bytes, FileId, FileIds, Id, Ids};
+use crate::{Input, Node, Output};
+use ring_math::{Bytes, FileId, FileIds, Id, Ids, IdsBuilder};
 use std::alloc::Global;
 use std::test::Fail;
-use wire_msg::{Copies, Message};
+use wire_msg::{Command, Copies, Message};
+
+/// What is given to a node.
+#[derive(Drop)]
+pub(super) enum Given {
+    Command { number: u64, command: Command },
+    Message { sender: Id, message: Message },
+    Noise,
+}
+
+impl Given {
+    /// The step of the node to which it is given.
+    pub(super) fn to(&self, node: &mut Node, alloc: Global) -> Result<Output, Fail> {
+        let input = match self {
+            Given::Command { number, command } => Input::Command {
+                number: *number,
+                command,
+            },
+            Given::Message { sender, message } => Input::Message {
+                sender: *sender,
+                message,
+            },
+            Given::Noise => Input::Noise,
+        };
+        Ok(node.step(alloc, &input)?)
+    }
+}
 
 pub(super) const A: Id = Id(0x10 << 120);
 
@@ -95,9 +122,9 @@ pub(super) fn handover(alloc: Global, bytes: &[u8]) -> Result<Message, Fail> {
 
 /// That A stands alone.
 fn only_a(alloc: Global) -> Result<Ids, Fail> {
-    let mut members = Ids::with_room(alloc)?;
+    let mut members = IdsBuilder::new();
     members.push(A);
-    Ok(members)
+    Ok(members.finish(alloc)?)
 }
 
 pub(super) fn join_reply(alloc: Global, attempt: u32) -> Result<Message, Fail> {
@@ -120,13 +147,11 @@ pub(super) fn lease(attempt: u32, beside: Id) -> Message {
 }
 
 fn none(alloc: Global) -> Result<FileIds, Fail> {
-    Ok(FileIds::with_room(alloc, 0)?)
+    Ok(FileIds::copy_of(alloc, &[])?)
 }
 
 fn only_the_file(alloc: Global) -> Result<FileIds, Fail> {
-    let mut files = FileIds::with_room(alloc, 1)?;
-    files.push(FILE);
-    Ok(files)
+    Ok(FileIds::copy_of(alloc, &[FILE])?)
 }
 
 pub(super) fn grant(alloc: Global, attempt: u32) -> Result<Message, Fail> {

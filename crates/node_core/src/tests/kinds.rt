@@ -1,11 +1,11 @@
 //! Every kind of message and command once, with ample memory.
 
 use super::given::{
-    A, B, C, FILE, ORIGIN, abc, ack, copies, fetch, grant, handover, insert, join_reply, lease,
-    lookup, probe_reply, reclaim, replica,
+    A, B, C, FILE, Given, ORIGIN, abc, ack, copies, fetch, grant, handover, insert, join_reply,
+    lease, lookup, probe_reply, reclaim, replica,
 };
 use super::said::{command, take, tell};
-use crate::{Input, Node};
+use crate::Node;
 use std::alloc::Global;
 use std::test::Fail;
 use wire_msg::{Command, Message, Reply, Why};
@@ -288,7 +288,7 @@ fn all_at_a_root(root: &mut Node, alloc: Global) -> Result<(), Fail> {
     replicas(root, alloc)?;
     joins(root, alloc)?;
     leaves(root, alloc)?;
-    take(root, alloc, &Input::Noise, "noise", &[], &[])
+    take(root, alloc, &Given::Noise, "noise", &[], &[])
 }
 
 fn all_at_a_joiner(joiner: &mut Node, alloc: Global) -> Result<(), Fail> {

@@ -1,7 +1,8 @@
 //! A few nodes, and all that they send one another.
 
+use super::given::Given;
 use super::said::{answer_name, kind};
-use crate::{Input, Node, Output};
+use crate::{Node, Output};
 use ring_math::Id;
 use std::alloc::Global;
 use std::test::Fail;
@@ -24,10 +25,10 @@ pub(super) struct Ring {
 }
 
 /// One step of the node with this identifier.
-fn step_of(nodes: &mut [Node], alloc: Global, id: Id, input: &Input) -> Result<Output, Fail> {
+fn step_of(nodes: &mut [Node], alloc: Global, id: Id, given: &Given) -> Result<Output, Fail> {
     for node in nodes {
         if node.id() == id {
-            return Ok(node.step(alloc, input)?);
+            return given.to(node, alloc);
         }
     }
     Err("no such node")?
@@ -59,14 +60,6 @@ fn close(closed: &mut Vec<(u64, &'static str)>, notes: &[Note]) -> Result<(), Fa
     Ok(())
 }
 
-fn input_of(alloc: Global, letter: &Letter) -> Result<Input, Fail> {
-    let message = letter.message.copy(alloc)?;
-    Ok(Input::Message {
-        sender: letter.sender,
-        message,
-    })
-}
-
 impl Ring {
     /// No node yet.
     pub(super) fn new(alloc: Global) -> Ring {
@@ -95,8 +88,8 @@ impl Ring {
         post(&mut self.letters, alloc, sender, output.messages.as_slice())
     }
 
-    fn give(&mut self, alloc: Global, to: Id, input: &Input) -> Result<(), Fail> {
-        let output = step_of(&mut self.nodes, alloc, to, input)?;
+    fn give(&mut self, alloc: Global, to: Id, given: &Given) -> Result<(), Fail> {
+        let output = step_of(&mut self.nodes, alloc, to, given)?;
         self.keep(alloc, to, &output)
     }
 
@@ -109,8 +102,8 @@ impl Ring {
         via: Id,
     ) -> Result<(), Fail> {
         let command = Command::Join { via };
-        let input = Input::Command { number, command };
-        self.give(alloc, node, &input)
+        let given = Given::Command { number, command };
+        self.give(alloc, node, &given)
     }
 
     /// The letter at this place comes; nothing comes where none was sent.
@@ -118,8 +111,11 @@ impl Ring {
         match self.letters.get(place) {
             Some(letter) => {
                 let to = letter.receiver;
-                let input = input_of(alloc, letter)?;
-                self.give(alloc, to, &input)
+                let given = Given::Message {
+                    sender: letter.sender,
+                    message: letter.message.copy(alloc)?,
+                };
+                self.give(alloc, to, &given)
             }
             None => Ok(()),
         }

@@ -1,6 +1,7 @@
 //! What a step sends and notes, in short, and whether it is what is wanted.
 
-use crate::{Input, Node, Output};
+use super::given::Given;
+use crate::{Node, Output};
 use ring_math::Id;
 use std::alloc::Global;
 use std::test::Fail;
@@ -105,16 +106,16 @@ pub(super) fn are_noted(notes: &[Note], wanted: &[(&str, u64, &str)]) -> bool {
     place == wanted.len()
 }
 
-/// The input comes to the node, which sends and notes just these. Where it does not, `of` is the failure.
+/// It is given to the node, which sends and notes just these. Where it does not, `of` is the failure.
 pub(super) fn take(
     node: &mut Node,
     alloc: Global,
-    input: &Input,
+    given: &Given,
     of: &'static str,
     sent: &[(&str, Id)],
     noted: &[(&str, u64, &str)],
 ) -> Result<(), Fail> {
-    let output = node.step(alloc, input)?;
+    let output = given.to(node, alloc)?;
     if are_sent(output.messages.as_slice(), sent) && are_noted(output.notes.as_slice(), noted) {
         Ok(())
     } else {
@@ -132,8 +133,8 @@ pub(super) fn tell(
     noted: &[(&str, u64, &str)],
 ) -> Result<(), Fail> {
     let of = kind(&message);
-    let input = Input::Message { sender, message };
-    take(node, alloc, &input, of, sent, noted)
+    let given = Given::Message { sender, message };
+    take(node, alloc, &given, of, sent, noted)
 }
 
 /// The same of a command.
@@ -145,12 +146,8 @@ pub(super) fn command(
     sent: &[(&str, Id)],
     noted: &[(&str, u64, &str)],
 ) -> Result<(), Fail> {
-    let input = Input::Command { number, command };
-    take(node, alloc, &input, "a command", sent, noted)
-}
-
-fn step(node: &mut Node, alloc: Global, input: &Input) -> Result<Output, Fail> {
-    Ok(node.step(alloc, input)?)
+    let given = Given::Command { number, command };
+    take(node, alloc, &given, "a command", sent, noted)
 }
 
 /// What the node sends and notes where this message comes.
@@ -160,8 +157,7 @@ pub(super) fn told(
     sender: Id,
     message: Message,
 ) -> Result<Output, Fail> {
-    let input = Input::Message { sender, message };
-    step(node, alloc, &input)
+    Given::Message { sender, message }.to(node, alloc)
 }
 
 /// Fails with this where it does not hold.

@@ -18,32 +18,24 @@
 --     settle 20
 --
 -- Here 10~ stands for 10 and thirty zeros, and 0~ for sixteen zeros.
-use Rattle.std.specs.Prelude.{◌≡◌, refl, ℕ, List, [], ◌∷◌, ◌*◌, ◌^◌}
+use Rattle.std.specs.Prelude.{◌≡◌, refl, ℕ, List, [], ◌∷◌, ◌++◌, ◌*◌, ◌^◌}
 use Rattle.ring_math.specs.Ring.{cw_of, is_between, is_nearer, shared_of}
 use Rattle.coverage.specs.Coverage.{in_arcs}
 use Rattle.wire_msg.specs.declared.command.Command.TheVariants as command
 use Rattle.wire_msg.specs.declared.reply.Reply.TheVariants as reply
 use Rattle.wire_msg.specs.declared.reply.Answer.TheVariants as answer
-use Rattle.wire_msg.specs.declared.note.Note.TheVariants.{Accepted, Answered, Closed}
-use Rattle.wire_msg.specs.Words.{InsertReply, Fetch, FetchReply, JoinRequest, JoinReply, Probe, ProbeReply, LeaseRequest, Grant, Handover, Confirm, Announce}
+use Rattle.wire_msg.specs.declared.note.Note.TheVariants.{Answered, Closed}
+use Rattle.wire_msg.specs.Words.{Fetch, FetchReply, JoinRequest, JoinReply, Probe, ProbeReply, LeaseRequest, Grant, Handover, Confirm, Announce}
 use Rattle.overlay_rules.specs.declared.entry.Entry.{Entry}
 use Rattle.overlay_rules.specs.Record.{Setting}
 use Rattle.overlay_rules.specs.Played.{Action, Command, Settle, Deliver, played}
-use Rattle.overlay_rules.proofs.ExampleText.{told, came, sent}
+use Rattle.overlay_rules.proofs.ExampleText.{told, came, sent, stored_alone, f, content, key_of_f}
 
 abbrev a : ℕ
 a = 16 * 256 ^ 15
 
--- the key of f: bac4a3851efa3aee0b8da32d7ef30356
 abbrev c : ℕ
-c = 248257413979965248232693700095624020822
-
--- the SHA-1 of the byte 66 and nine zero bytes: bac4a3851efa3aee0b8da32d7ef3035628e3852a
-abbrev f : List ℕ
-f = 186 ∷ 196 ∷ 163 ∷ 133 ∷ 30 ∷ 250 ∷ 58 ∷ 238 ∷ 11 ∷ 141 ∷ 163 ∷ 45 ∷ 126 ∷ 243 ∷ 3 ∷ 86 ∷ 40 ∷ 227 ∷ 133 ∷ 42 ∷ []
-
-abbrev content : List ℕ
-content = 97 ∷ 98 ∷ 99 ∷ []
+c = key_of_f
 
 abbrev setting : Setting
 setting = record { nodes = a ∷ c ∷ []; founder = a }
@@ -65,10 +57,8 @@ actions =
 
 abbrev entries : List Entry
 entries =
-    told a 1 (command.Insert f 1 content) (sent 1 a a (InsertReply 1 (reply.Stored (a ∷ []))) ∷ [])
-    (Accepted f content ∷ Answered a 1 (reply.Stored (a ∷ [])) ∷ [])
-    ∷ came 0 [] (Closed 1 (answer.Reply (reply.Stored (a ∷ []))) ∷ [])
-    ∷ told c 2 (command.Join a) (sent 3 c a (JoinRequest c 1 0) ∷ []) []
+    stored_alone a
+    ++ told c 2 (command.Join a) (sent 3 c a (JoinRequest c 1 0) ∷ []) []
     ∷ came 1 (sent 4 a c (JoinReply 1 (a ∷ [])) ∷ []) []
     ∷ came 2 (sent 5 c a (Probe 1) ∷ []) []
     ∷ came 3 (sent 6 a c (ProbeReply 1 (a ∷ [])) ∷ []) []

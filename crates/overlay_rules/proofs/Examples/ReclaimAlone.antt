@@ -14,28 +14,21 @@
 --     settle 9
 --
 -- Here 10~ stands for 10 and thirty zeros, and 0~ for sixteen zeros.
-use Rattle.std.specs.Prelude.{◌≡◌, refl, ℕ, List, [], ◌∷◌, ◌*◌, ◌^◌}
+use Rattle.std.specs.Prelude.{◌≡◌, refl, ℕ, List, [], ◌∷◌, ◌++◌, ◌*◌, ◌^◌}
 use Rattle.ring_math.specs.Ring.{cw_of, is_between, is_nearer, shared_of}
 use Rattle.coverage.specs.Coverage.{in_arcs}
 use Rattle.wire_msg.specs.declared.command.Command.TheVariants as command
 use Rattle.wire_msg.specs.declared.reply.Reply.TheVariants as reply
 use Rattle.wire_msg.specs.declared.reply.Answer.TheVariants as answer
-use Rattle.wire_msg.specs.declared.note.Note.TheVariants.{Accepted, Answered, Closed, Reclaimed}
+use Rattle.wire_msg.specs.declared.note.Note.TheVariants.{Answered, Closed, Reclaimed}
 use Rattle.wire_msg.specs.Words.{InsertReply, FetchReply, ReclaimReply}
 use Rattle.overlay_rules.specs.declared.entry.Entry.{Entry}
 use Rattle.overlay_rules.specs.Record.{Setting}
 use Rattle.overlay_rules.specs.Played.{Action, Command, Settle, played}
-use Rattle.overlay_rules.proofs.ExampleText.{told, came, sent}
+use Rattle.overlay_rules.proofs.ExampleText.{told, came, sent, stored_alone, f, content}
 
 abbrev a : ℕ
 a = 16 * 256 ^ 15
-
--- the SHA-1 of the byte 66 and nine zero bytes: bac4a3851efa3aee0b8da32d7ef3035628e3852a
-abbrev f : List ℕ
-f = 186 ∷ 196 ∷ 163 ∷ 133 ∷ 30 ∷ 250 ∷ 58 ∷ 238 ∷ 11 ∷ 141 ∷ 163 ∷ 45 ∷ 126 ∷ 243 ∷ 3 ∷ 86 ∷ 40 ∷ 227 ∷ 133 ∷ 42 ∷ []
-
-abbrev content : List ℕ
-content = 97 ∷ 98 ∷ 99 ∷ []
 
 abbrev setting : Setting
 setting = record { nodes = a ∷ []; founder = a }
@@ -54,10 +47,8 @@ actions =
 
 abbrev entries : List Entry
 entries =
-    told a 1 (command.Insert f 1 content) (sent 1 a a (InsertReply 1 (reply.Stored (a ∷ []))) ∷ [])
-    (Accepted f content ∷ Answered a 1 (reply.Stored (a ∷ [])) ∷ [])
-    ∷ came 0 [] (Closed 1 (answer.Reply (reply.Stored (a ∷ []))) ∷ [])
-    ∷ told a 2 (command.Reclaim f) (sent 3 a a (ReclaimReply 2 (reply.Reclaimed a)) ∷ []) (Reclaimed f ∷ Answered a 2 (reply.Reclaimed a) ∷ [])
+    stored_alone a
+    ++ told a 2 (command.Reclaim f) (sent 3 a a (ReclaimReply 2 (reply.Reclaimed a)) ∷ []) (Reclaimed f ∷ Answered a 2 (reply.Reclaimed a) ∷ [])
     ∷ came 1 [] (Closed 2 (answer.Reply (reply.Reclaimed a)) ∷ [])
     ∷ told a 3 (command.Fetch f) (sent 5 a a (FetchReply 3 (reply.Gone a)) ∷ []) (Answered a 3 (reply.Gone a) ∷ [])
     ∷ told a 4 (command.Insert f 1 content) (sent 6 a a (InsertReply 4 (reply.Gone a)) ∷ []) (Answered a 4 (reply.Gone a) ∷ [])

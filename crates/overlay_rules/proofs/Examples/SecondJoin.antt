@@ -11,7 +11,7 @@
 --     settle 40
 --
 -- Here 10~ stands for 10 and thirty zeros.
-use Rattle.std.specs.Prelude.{◌≡◌, refl, ℕ, List, [], ◌∷◌, ◌*◌, ◌^◌}
+use Rattle.std.specs.Prelude.{◌≡◌, refl, ℕ, List, [], ◌∷◌, ◌++◌, ◌*◌, ◌^◌}
 use Rattle.ring_math.specs.Ring.{cw_of, is_between, is_nearer, shared_of}
 use Rattle.coverage.specs.Coverage.{in_arcs}
 use Rattle.wire_msg.specs.declared.command.Command.TheVariants as command
@@ -21,7 +21,7 @@ use Rattle.wire_msg.specs.Words.{JoinRequest, JoinReply, Probe, ProbeReply, Leas
 use Rattle.overlay_rules.specs.declared.entry.Entry.{Entry}
 use Rattle.overlay_rules.specs.Record.{Setting}
 use Rattle.overlay_rules.specs.Played.{Action, Command, Settle, played}
-use Rattle.overlay_rules.proofs.ExampleText.{told, came, sent}
+use Rattle.overlay_rules.proofs.ExampleText.{told, came, sent, second_joined}
 
 abbrev a : ℕ
 a = 16 * 256 ^ 15
@@ -45,16 +45,8 @@ actions =
 
 abbrev entries : List Entry
 entries =
-    told b 1 (command.Join a) (sent 1 b a (JoinRequest b 1 0) ∷ []) []
-    ∷ came 0 (sent 2 a b (JoinReply 1 (a ∷ [])) ∷ []) []
-    ∷ came 1 (sent 3 b a (Probe 1) ∷ []) []
-    ∷ came 2 (sent 4 a b (ProbeReply 1 (a ∷ [])) ∷ []) []
-    ∷ came 3 (sent 5 b a (LeaseRequest 1 a a) ∷ []) []
-    ∷ came 4 (sent 6 a b (Grant 1 [] []) ∷ []) []
-    ∷ came 5 (sent 7 b a (Confirm 1) ∷ sent 7 b a Announce ∷ []) (Closed 1 (answer.Joined a a) ∷ [])
-    ∷ came 6 [] []
-    ∷ came 7 [] []
-    ∷ told c 2 (command.Join b) (sent 10 c b (JoinRequest c 1 0) ∷ []) []
+    second_joined a b
+    ++ told c 2 (command.Join b) (sent 10 c b (JoinRequest c 1 0) ∷ []) []
     ∷ came 8 (sent 11 b a (JoinRequest c 1 1) ∷ []) []
     ∷ came 9 (sent 12 a c (JoinReply 1 (a ∷ b ∷ [])) ∷ []) []
     ∷ came 10 (sent 13 c b (Probe 1) ∷ sent 13 c a (Probe 1) ∷ []) []

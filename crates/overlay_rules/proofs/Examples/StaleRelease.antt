@@ -19,7 +19,7 @@
 --     settle 20
 --
 -- Here 10~ stands for 10 and thirty zeros.
-use Rattle.std.specs.Prelude.{◌≡◌, refl, ℕ, List, [], ◌∷◌, ◌*◌, ◌^◌}
+use Rattle.std.specs.Prelude.{◌≡◌, refl, ℕ, List, [], ◌∷◌, ◌++◌, ◌*◌, ◌^◌}
 use Rattle.ring_math.specs.Ring.{cw_of, is_between, is_nearer, shared_of}
 use Rattle.coverage.specs.Coverage.{in_arcs}
 use Rattle.wire_msg.specs.declared.command.Command.TheVariants as command
@@ -31,7 +31,7 @@ use Rattle.wire_msg.specs.Words.{Lookup, LookupReply, JoinRequest, JoinReply, Pr
 use Rattle.overlay_rules.specs.declared.entry.Entry.{Entry}
 use Rattle.overlay_rules.specs.Record.{Setting}
 use Rattle.overlay_rules.specs.Played.{Action, Command, Settle, Deliver, played}
-use Rattle.overlay_rules.proofs.ExampleText.{told, came, sent}
+use Rattle.overlay_rules.proofs.ExampleText.{told, came, sent, second_leased}
 
 abbrev a : ℕ
 a = 16 * 256 ^ 15
@@ -61,13 +61,8 @@ actions =
 
 abbrev entries : List Entry
 entries =
-    told b 1 (command.Join a) (sent 1 b a (JoinRequest b 1 0) ∷ []) []
-    ∷ came 0 (sent 2 a b (JoinReply 1 (a ∷ [])) ∷ []) []
-    ∷ came 1 (sent 3 b a (Probe 1) ∷ []) []
-    ∷ came 2 (sent 4 a b (ProbeReply 1 (a ∷ [])) ∷ []) []
-    ∷ came 3 (sent 5 b a (LeaseRequest 1 a a) ∷ []) []
-    ∷ came 4 (sent 6 a b (Grant 1 [] []) ∷ []) []
-    ∷ told b 2 command.GiveUp (sent 7 b a (Release 1) ∷ []) (Closed 1 (answer.Stopped b own.GivenUp) ∷ Closed 2 answer.GaveUp ∷ [])
+    second_leased a b
+    ++ told b 2 command.GiveUp (sent 7 b a (Release 1) ∷ []) (Closed 1 (answer.Stopped b own.GivenUp) ∷ Closed 2 answer.GaveUp ∷ [])
     ∷ told b 3 (command.Join a) (sent 8 b a (JoinRequest b 2 0) ∷ []) []
     ∷ came 7 (sent 9 a b (JoinReply 2 (a ∷ [])) ∷ []) []
     ∷ came 8 (sent 10 b a (Probe 2) ∷ []) []

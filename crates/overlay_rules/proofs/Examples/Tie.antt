@@ -10,18 +10,18 @@
 --     settle 20
 --
 -- Here 10~ stands for 10 and thirty zeros, and 20~1 for 20, twenty-nine zeros and 1.
-use Rattle.std.specs.Prelude.{◌≡◌, refl, ℕ, List, [], ◌∷◌, ◌*◌, ◌+◌, ◌^◌}
+use Rattle.std.specs.Prelude.{◌≡◌, refl, ℕ, List, [], ◌∷◌, ◌++◌, ◌*◌, ◌+◌, ◌^◌}
 use Rattle.ring_math.specs.Ring.{cw_of, is_between, is_nearer, shared_of}
 use Rattle.coverage.specs.Coverage.{in_arcs}
 use Rattle.wire_msg.specs.declared.command.Command.TheVariants as command
 use Rattle.wire_msg.specs.declared.reply.Reply.TheVariants as reply
 use Rattle.wire_msg.specs.declared.reply.Answer.TheVariants as answer
 use Rattle.wire_msg.specs.declared.note.Note.TheVariants.{Delivered, Answered, Closed}
-use Rattle.wire_msg.specs.Words.{Lookup, LookupReply, JoinRequest, JoinReply, Probe, ProbeReply, LeaseRequest, Grant, Confirm, Announce}
+use Rattle.wire_msg.specs.Words.{Lookup, LookupReply}
 use Rattle.overlay_rules.specs.declared.entry.Entry.{Entry}
 use Rattle.overlay_rules.specs.Record.{Setting}
 use Rattle.overlay_rules.specs.Played.{Action, Command, Settle, played}
-use Rattle.overlay_rules.proofs.ExampleText.{told, came, sent}
+use Rattle.overlay_rules.proofs.ExampleText.{told, came, sent, second_joined}
 
 abbrev a : ℕ
 a = 16 * 256 ^ 15
@@ -49,16 +49,8 @@ actions =
 
 abbrev entries : List Entry
 entries =
-    told b 1 (command.Join a) (sent 1 b a (JoinRequest b 1 0) ∷ []) []
-    ∷ came 0 (sent 2 a b (JoinReply 1 (a ∷ [])) ∷ []) []
-    ∷ came 1 (sent 3 b a (Probe 1) ∷ []) []
-    ∷ came 2 (sent 4 a b (ProbeReply 1 (a ∷ [])) ∷ []) []
-    ∷ came 3 (sent 5 b a (LeaseRequest 1 a a) ∷ []) []
-    ∷ came 4 (sent 6 a b (Grant 1 [] []) ∷ []) []
-    ∷ came 5 (sent 7 b a (Confirm 1) ∷ sent 7 b a Announce ∷ []) (Closed 1 (answer.Joined a a) ∷ [])
-    ∷ came 6 [] []
-    ∷ came 7 [] []
-    ∷ told b 2 (command.Lookup middle) (sent 10 b a (Lookup b 2 middle 1) ∷ []) []
+    second_joined a b
+    ++ told b 2 (command.Lookup middle) (sent 10 b a (Lookup b 2 middle 1) ∷ []) []
     ∷ told b 3 (command.Lookup beyond) (sent 11 b b (LookupReply 3 (reply.Delivered b 0)) ∷ [])
     (Delivered b 3 beyond 0 ∷ Answered b 3 (reply.Delivered b 0) ∷ [])
     ∷ came 8 (sent 12 a b (LookupReply 2 (reply.Delivered a 1)) ∷ []) (Delivered b 2 middle 1 ∷ Answered b 2 (reply.Delivered a 1) ∷ [])

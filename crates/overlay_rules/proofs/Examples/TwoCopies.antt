@@ -13,33 +13,25 @@
 --     settle 20
 --
 -- Here 10~ stands for 10 and thirty zeros, and 0~ for sixteen zeros.
-use Rattle.std.specs.Prelude.{◌≡◌, refl, ℕ, List, [], ◌∷◌, ◌*◌, ◌^◌}
+use Rattle.std.specs.Prelude.{◌≡◌, refl, ℕ, List, [], ◌∷◌, ◌++◌, ◌*◌, ◌^◌}
 use Rattle.ring_math.specs.Ring.{cw_of, is_between, is_nearer, shared_of}
 use Rattle.coverage.specs.Coverage.{in_arcs}
 use Rattle.wire_msg.specs.declared.command.Command.TheVariants as command
 use Rattle.wire_msg.specs.declared.reply.Reply.TheVariants as reply
 use Rattle.wire_msg.specs.declared.reply.Answer.TheVariants as answer
 use Rattle.wire_msg.specs.declared.note.Note.TheVariants.{Accepted, Answered, Closed}
-use Rattle.wire_msg.specs.Words.{InsertReply, Fetch, FetchReply, JoinRequest, JoinReply, Probe, ProbeReply, LeaseRequest, Grant, Confirm, Announce, Replicate}
+use Rattle.wire_msg.specs.Words.{InsertReply, Fetch, FetchReply, Replicate}
 use Rattle.wire_msg.specs.Words.{ReplicaAck}
 use Rattle.overlay_rules.specs.declared.entry.Entry.{Entry}
 use Rattle.overlay_rules.specs.Record.{Setting}
 use Rattle.overlay_rules.specs.Played.{Action, Command, Settle, played}
-use Rattle.overlay_rules.proofs.ExampleText.{told, came, sent}
+use Rattle.overlay_rules.proofs.ExampleText.{told, came, sent, second_joined, f, content, key_of_f}
 
--- the key of f: bac4a3851efa3aee0b8da32d7ef30356
 abbrev a : ℕ
-a = 248257413979965248232693700095624020822
+a = key_of_f
 
 abbrev b : ℕ
 b = 16 * 256 ^ 15
-
--- the SHA-1 of the byte 66 and nine zero bytes: bac4a3851efa3aee0b8da32d7ef3035628e3852a
-abbrev f : List ℕ
-f = 186 ∷ 196 ∷ 163 ∷ 133 ∷ 30 ∷ 250 ∷ 58 ∷ 238 ∷ 11 ∷ 141 ∷ 163 ∷ 45 ∷ 126 ∷ 243 ∷ 3 ∷ 86 ∷ 40 ∷ 227 ∷ 133 ∷ 42 ∷ []
-
-abbrev content : List ℕ
-content = 97 ∷ 98 ∷ 99 ∷ []
 
 abbrev setting : Setting
 setting = record { nodes = a ∷ b ∷ []; founder = a }
@@ -56,16 +48,8 @@ actions =
 
 abbrev entries : List Entry
 entries =
-    told b 1 (command.Join a) (sent 1 b a (JoinRequest b 1 0) ∷ []) []
-    ∷ came 0 (sent 2 a b (JoinReply 1 (a ∷ [])) ∷ []) []
-    ∷ came 1 (sent 3 b a (Probe 1) ∷ []) []
-    ∷ came 2 (sent 4 a b (ProbeReply 1 (a ∷ [])) ∷ []) []
-    ∷ came 3 (sent 5 b a (LeaseRequest 1 a a) ∷ []) []
-    ∷ came 4 (sent 6 a b (Grant 1 [] []) ∷ []) []
-    ∷ came 5 (sent 7 b a (Confirm 1) ∷ sent 7 b a Announce ∷ []) (Closed 1 (answer.Joined a a) ∷ [])
-    ∷ came 6 [] []
-    ∷ came 7 [] []
-    ∷ told a 2 (command.Insert f 2 content) (sent 10 a b (Replicate a 2 f content) ∷ []) (Accepted f content ∷ [])
+    second_joined a b
+    ++ told a 2 (command.Insert f 2 content) (sent 10 a b (Replicate a 2 f content) ∷ []) (Accepted f content ∷ [])
     ∷ came 8 (sent 11 b a (ReplicaAck a 2 f) ∷ []) []
     ∷ came 9 (sent 12 a a (InsertReply 2 (reply.Stored (a ∷ b ∷ []))) ∷ []) (Answered a 2 (reply.Stored (a ∷ b ∷ [])) ∷ [])
     ∷ came 10 [] (Closed 2 (answer.Reply (reply.Stored (a ∷ b ∷ []))) ∷ [])

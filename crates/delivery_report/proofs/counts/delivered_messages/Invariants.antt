@@ -5,8 +5,8 @@ use Rattle.overlay_rules.specs.Played.{is_delivery_of}
 use Rattle.delivery_report.proofs.counts.delivered_messages.Given as goal
 
 -- the marks say what the entries so far delivered
-abbrev pub invariant-loop-entry : goal.invariant-loop-entry
-invariant-loop-entry l = record {
+abbrev pub invariant-loop-place : goal.invariant-loop-place
+invariant-loop-place l = record {
   sent : length l.marks.items ≡ length (sent_in l.entries);
-  marked : (k : ℕ) → k < length l.marks.items → get_or l.marks.items k false ≡ list_any (λ e. is_delivery_of k e.event) (take l.entry-index l.entries);
+  marked : (k : ℕ) → k < length l.marks.items → get_or l.marks.items k false ≡ list_any (λ e. is_delivery_of k e.event) (take l.place l.entries);
 }

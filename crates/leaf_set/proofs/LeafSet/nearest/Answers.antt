@@ -10,6 +10,6 @@ pub returns : goal.returns
 returns c =
     rw c.nearer_of.ensures
     (found_listed (in_order c.args.self.now) c.args.key _
-    (subst (λ (s : Leaves). Found (Contains (in_order s)) c.args.key (nearer_of c.nearest.result c.nearest-2.result c.args.key)) c.self.view_is
-    (found_leaf c.self.inside.right c.self.inside.left c.args.key c.nearest.result c.nearest-2.result
-    (listed_found _ _ _ c.nearest.ensures) (listed_found _ _ _ c.nearest-2.ensures))))
+    (subst (λ (s : Leaves). Found (Contains (in_order s)) c.args.key (nearer_of c.nearest-on_right.result c.nearest-on_left.result c.args.key)) c.self.view_is
+    (found_leaf c.self.inside.right c.self.inside.left c.args.key c.nearest-on_right.result c.nearest-on_left.result
+    (listed_found _ _ _ c.nearest-on_right.ensures) (listed_found _ _ _ c.nearest-on_left.ensures))))

@@ -8,4 +8,5 @@ use Rattle.node_mailbox.specs.declared.limits.TheConstants.{ALL_PARTS}
 pub split-requires-clause-two : goal.split-requires-clause-two
 split-requires-clause-two g c =
     let HasTwo : PassView → Type 0 = λ pass. 2 ≤ pass.parts in
-    subst (All HasTwo) (sym c.in_ok-post.ensures.passes) (All-map HasTwo (λ mailbox. fresh_pass mailbox ALL_PARTS) c.in_ok-post.post.mailboxes (λ k d lt. omega arith))
+    subst (All HasTwo) (sym c.in_ok-post.ensures.passes)
+    (All-map HasTwo (λ mailbox. fresh_pass mailbox ALL_PARTS) c.in_ok-post.post.mailboxes (λ k d lt. omega arith))

@@ -1,47 +1,68 @@
-use Rattle.std.proofs.Common.{◌≡◌, ◌+◌, true, false, get_or, take, Some, sym, ◌∙◌, subst, arith}
-use Rattle.std.proofs.lemmas.Bool.{eqb-true, eq-eqb}
-use Rattle.std.proofs.lemmas.List.{take_all}
+use Rattle.std.proofs.Common.{◌≡◌, ℕ, ◌<◌, ◌≤◌, ◌+◌, length, true, false, get_or, take, Some, None, sym, ◌∙◌, subst, arith}
+use Rattle.std.specs.Prelude.{◌↔◌}
+use Rattle.std.specs.List.{Contains}
+use Rattle.std.proofs.lemmas.Bool.{eqb-true, eq-eqb, not-true, not-false}
+use Rattle.std.proofs.lemmas.List.{take_all, length-map}
 use Rattle.ring_math.specs.Nearer.{improves}
-use Rattle.route_table.proofs.Found.{Nearest, nearest_kept, nearest_new, none_improves, closest_improves}
+use Rattle.route_table.specs.Filled.{entry_at, entries_at}
+use Rattle.route_table.proofs.Found.{Nearest, nearest_kept, nearest_new, nearest_same, none_improves, closest_improves}
+use Rattle.route_table.proofs.Places.{read_entry, read_nothing}
 use Rattle.route_table.proofs.RouteTable.best.Goals as goal
-use Rattle.route_table.proofs.RouteTable.best.Goals.{then-improves_on, else-improves_on}
+use Rattle.route_table.proofs.RouteTable.best.Goals.{then-ne+then-improves_on, else-ne, else-ne-via-then-ne+else-improves_on, else-ne-via-else-ne}
 
-pub loop-entry-preserved : goal.loop-entry-preserved
-loop-entry-preserved c =
-    let xs = c.entries-entry-items.result.now in
-    let i = c.loop-entry.entry-index in
-    let so_far = c.loop-entry.invariant.so_far in
-    elim c.if-improves_on.branch [
-      | then-improves_on w ↦
-          let good : improves c.args.key c.args.least c.loop-entry.nearest c.in-Some.id ≡ true = sym c.improves_on.ensures ∙ w.if-improves_on.true in
-          let read : Some c.in-Some.id ≡ get_or xs i (Some c.in-Some.id) = subst (λ e. e ≡ get_or xs i e) c.in-Some.is c.entry-item.is in
+pub loop-id-preserved : goal.loop-id-preserved
+loop-id-preserved c =
+    let ids = c.filled-id-items.result.now in
+    let me = c.me-me.result in
+    let xs = entries_at me ids in
+    let i = c.loop-id.id-index in
+    let within = c.loop-id-test.true in
+    let inside : i < length xs = omega (arith, within, length-map ids (entry_at me)) in
+    elim c.if-ne.branch [
+      | then-ne+then-improves_on w ↦
+          let good : improves c.args.key c.args.least c.loop-id.nearest c.id-item.result ≡ true = sym w.improves_on.ensures ∙ w.if-improves_on.true in
+          let read : Some c.id-item.result ≡ get_or xs i (Some c.id-item.result) =
+          read_entry me ids i c.id-item.result within c.id-item.is (not-true _ (sym c.ne.ensures ∙ w.if-ne.true)) in
           record {
             so_far = subst (Nearest (take (i + 1) xs) c.args.key c.args.least c.args.than) (sym w.nearest-is)
-                (nearest_new c.args.key c.args.least c.args.than xs i c.in-Some.id c.loop-entry.nearest c.loop-entry-test.true read good so_far);
+                (nearest_new c.args.key c.args.least c.args.than xs i c.id-item.result c.loop-id.nearest inside read good c.loop-id.invariant.so_far);
             distance = cc;
           }
-      | else-improves_on w ↦
-          let bad : improves c.args.key c.args.least c.loop-entry.nearest c.in-Some.id ≡ false = sym c.improves_on.ensures ∙ w.if-improves_on.false in
-          record {
-            so_far = subst (Nearest (take (i + 1) xs) c.args.key c.args.least c.args.than) (sym w.nearest-is)
-                (nearest_kept c.args.key c.args.least c.args.than xs i c.entry-item.result c.loop-entry.nearest c.loop-entry-test.true c.entry-item.is
-                (λ x e. let same : c.in-Some.id ≡ x = cc in subst (λ y. improves c.args.key c.args.least c.loop-entry.nearest y ≡ false) same bad) so_far);
-            distance = cc;
-          }
+      | else-ne w ↦ record {
+        so_far = subst (Nearest (take (i + 1) xs) c.args.key c.args.least c.args.than) (sym w.nearest-is) (elim w.else-ne.branch [
+          | else-ne-via-then-ne+else-improves_on v ↦
+              let bad : improves c.args.key c.args.least c.loop-id.nearest c.id-item.result ≡ false = sym v.improves_on.ensures ∙ v.if-improves_on.false in
+              nearest_kept c.args.key c.args.least c.args.than xs i (Some c.id-item.result) c.loop-id.nearest inside
+              (read_entry me ids i c.id-item.result within c.id-item.is (not-true _ (sym c.ne.ensures ∙ v.if-ne.true)))
+              (λ x e. let same : c.id-item.result ≡ x = cc in subst (λ y. improves c.args.key c.args.least c.loop-id.nearest y ≡ false) same bad)
+              c.loop-id.invariant.so_far
+          | else-ne-via-else-ne v ↦
+              nearest_kept c.args.key c.args.least c.args.than xs i None c.loop-id.nearest inside
+              (read_nothing me ids i c.id-item.result within c.id-item.is (not-false _ (sym c.ne.ensures ∙ v.if-ne.false)))
+              (λ x e. cc) c.loop-id.invariant.so_far
+        ]);
+        distance = cc;
+      }
     ]
 
 pub returns-then-eq : goal.returns-then-eq
 returns-then-eq c =
-    let all : take c.loop-entry.entry-index c.entries-entry-items.result.now ≡ c.args.self.now.entries = take_all _ _ (omega arith)
-    ∙ c.entries-entry-items.ensures in
-    none_improves c.args.self.now.entries c.args.key c.args.least c.args.than c.loop-entry.nearest
-    (subst (λ es. Nearest es c.args.key c.args.least c.args.than c.loop-entry.nearest) all c.loop-entry.invariant.so_far)
-    (eqb-true c.loop-entry.nearest c.args.than (sym c.eq.ensures ∙ c.if-eq.true))
+    let xs = entries_at c.me-me.result c.filled-id-items.result.now in
+    let end : length xs ≤ c.loop-id.id-index = omega (arith, c.loop-id-test.false, length-map c.filled-id-items.result.now (entry_at c.me-me.result)) in
+    none_improves c.args.self.now.entries c.args.key c.args.least c.args.than c.loop-id.nearest
+    (nearest_same xs c.args.self.now.entries c.args.key c.args.least c.args.than c.loop-id.nearest
+    (subst (λ m. (z : ℕ) → Contains c.args.self.now.entries (Some z) ↔ Contains (entries_at m c.filled-id-items.result.now) (Some z))
+    (sym c.me-me.ensures) c.filled-id-items.ensures)
+    (subst (λ es. Nearest es c.args.key c.args.least c.args.than c.loop-id.nearest) (take_all _ _ end) c.loop-id.invariant.so_far))
+    (eqb-true c.loop-id.nearest c.args.than (sym c.eq.ensures ∙ c.if-eq.true))
 
 pub returns-else-eq : goal.returns-else-eq
 returns-else-eq c =
-    let all : take c.loop-entry.entry-index c.entries-entry-items.result.now ≡ c.args.self.now.entries = take_all _ _ (omega arith)
-    ∙ c.entries-entry-items.ensures in
-    closest_improves c.args.self.now.entries c.args.key c.args.least c.args.than c.loop-entry.nearest
-    (subst (λ es. Nearest es c.args.key c.args.least c.args.than c.loop-entry.nearest) all c.loop-entry.invariant.so_far)
-    (λ same. let equal : c.eq.result ≡ true = c.eq.ensures ∙ eq-eqb c.loop-entry.nearest c.args.than same in cc)
+    let xs = entries_at c.me-me.result c.filled-id-items.result.now in
+    let end : length xs ≤ c.loop-id.id-index = omega (arith, c.loop-id-test.false, length-map c.filled-id-items.result.now (entry_at c.me-me.result)) in
+    closest_improves c.args.self.now.entries c.args.key c.args.least c.args.than c.loop-id.nearest
+    (nearest_same xs c.args.self.now.entries c.args.key c.args.least c.args.than c.loop-id.nearest
+    (subst (λ m. (z : ℕ) → Contains c.args.self.now.entries (Some z) ↔ Contains (entries_at m c.filled-id-items.result.now) (Some z))
+    (sym c.me-me.ensures) c.filled-id-items.ensures)
+    (subst (λ es. Nearest es c.args.key c.args.least c.args.than c.loop-id.nearest) (take_all _ _ end) c.loop-id.invariant.so_far))
+    (λ same. let equal : c.eq.result ≡ true = c.eq.ensures ∙ eq-eqb c.loop-id.nearest c.args.than same in cc)

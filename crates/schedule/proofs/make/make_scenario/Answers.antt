@@ -1,7 +1,6 @@
 -- The founder is the first of the nodes that were declared.
 use Rattle.std.proofs.Common.{ap, ◌∙◌, arith}
 use Rattle.scenario_reader.specs.Plain.{Draft}
-use Rattle.schedule.specs.Made.{Making, node_lines, node_id}
 use Rattle.schedule.proofs.Keeping.{may_found}
 use Rattle.schedule.proofs.make.make_scenario.Goals as goal
 

@@ -4,7 +4,6 @@ use Rattle.overlay_rules.specs.Outcome.{Outcome, nothing}
 use Rattle.node_parts.specs.Seen.{seen}
 use Rattle.node_parts.specs.Plans.{Plans}
 use Rattle.std.proofs.Common.{if◌then◌else◌}
-use Rattle.ring_math.specs.Roomy.{Roomy}
 use Rattle.ring_math.specs.Files.{buried_all}
 use Rattle.coverage.specs.GapFiles.{Lists}
 use Rattle.overlay_rules.specs.Joining.{with_grant}
@@ -41,4 +40,4 @@ returns c = λ known h.
     ∙ keeping-state s c.args.from lists join (left_lists s.phase) (right_lists s.phase) c.in_ok-left.left c.in_ok-right.right c.of.result _ c.requires
     (c.in_ok-left.ensures ∙ ap (λ (b : Bool). if b then Some lists else None) c.eq.ensures)
     (c.in_ok-right.ensures ∙ ap (λ (b : Bool). if b then Some lists else None) c.eq-2.ensures) c.of.ensures
-    (ap (λ (x : Roomy). buried_all s.files x.files) c.in_ok-copy.ensures ∙ ap (λ (fs : List (List ℕ)). buried_all s.files fs) c.tombs.ensures)))
+    (ap (λ (fs : List (List ℕ)). buried_all s.files fs) c.in_ok-copy.ensures ∙ ap (λ (fs : List (List ℕ)). buried_all s.files fs) c.tombs.ensures)))

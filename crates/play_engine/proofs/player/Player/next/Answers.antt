@@ -6,8 +6,8 @@ use Rattle.play_engine.specs.Progress.{Progress}
 use Rattle.play_engine.proofs.Going.{is_next}
 use Rattle.play_engine.proofs.player.Player.next.Goals as goal
 
-pub returns : goal.returns
-returns c =
+pub returns-clause-next : goal.returns-clause-next
+returns-clause-next c =
     is_next c.args.scenario.now c.args.self.now _ _ _ _ _ c.requires.at
     (c.sent_len-sent.ensures ∙ ap (λ (a : Progress). length (sent_in a.recorded.entries)) c.self.view_is)
     (c.oldest_undelivered-oldest.ensures ∙ ap (λ (a : Progress). oldest_undelivered (world_of a.recorded)) c.self.view_is)

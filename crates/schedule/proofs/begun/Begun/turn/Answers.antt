@@ -1,4 +1,4 @@
-use Rattle.schedule.proofs.Turning.{gives_delivery, gives_again, gives_oldest, gives_word}
+use Rattle.schedule.proofs.Turning.{gives_delivery, gives_again, gives_oldest, gives_word, shuffle_ends}
 use Rattle.schedule.proofs.begun.Begun.turn.Goals as goal
 
 pub returns-then-again-gt0-clause-some : goal.returns-then-again-gt0-clause-some
@@ -12,7 +12,10 @@ returns-in_ok-oldest-in-Settle-clause-some c =
     rw c.in-Settle.is (rw c.in_ok-oldest-in-Settle.was
     (gives_oldest _ _ _ _ _ _ c.if-again-gt0.false c.if-left-eq0.false c.requires))
 
-pub returns-else-left-eq0-2-clause-some : goal.returns-else-left-eq0-2-clause-some
-returns-else-left-eq0-2-clause-some c =
-    rw c.in-Shuffle.is (rw c.next.ensures.after
-    (gives_word _ _ _ _ _ _ _ _ c.if-left-eq0-2.false c.next.ensures.word c.drawn.ensures c.delivery-in-Shuffle.ensures))
+pub returns-then-next-end-clause-none : goal.returns-then-next-end-clause-none
+returns-then-next-end-clause-none c = rw c.in-Shuffle.is (shuffle_ends _ _ _ _ _ _ c.if-next-end.true)
+
+pub returns-else-next-end-clause-some : goal.returns-else-next-end-clause-some
+returns-else-next-end-clause-some c =
+    rw c.in-Shuffle.is
+    (gives_word _ _ _ _ _ _ _ _ _ c.if-next-end.false c.word-word.ensures c.drawn.ensures c.delivery-in-Shuffle.ensures)

@@ -1,100 +1,163 @@
-use Rattle.std.proofs.Common.{◌≡◌, ◌∙◌, ◌+◌, ◌++◌, ◌∷◌, [], ℕ, List, length, slice_index, get_or, vec_len, sym, ap, subst}
+use Rattle.std.proofs.Common.{◌≡◌, ◌∙◌, ◌+◌, ◌-◌, ◌++◌, ◌∷◌, [], ℕ, List, Option, All, Contains, length, map, slice_index, vec_len, refl, sym, ap, subst, arith}
+use Rattle.std.proofs.lemmas.List.{length-map}
+use Rattle.wire_msg.specs.Words.{Envelope, plain_sent}
 use Rattle.overlay_rules.specs.State.{State}
 use Rattle.overlay_rules.specs.Step.{step}
-use Rattle.overlay_rules.specs.Record.{state_at, sent_in}
+use Rattle.overlay_rules.specs.Record.{IsFresh, enveloped, sent_in, state_at}
+use Rattle.overlay_rules.specs.Played.{entry_of}
 use Rattle.overlay_rules.specs.Outcome.{Input}
-use Rattle.overlay_rules.specs.declared.entry.Event.{Event}
 use Rattle.overlay_rules.specs.declared.entry.Entry.{Entry}
+use Rattle.step_facts.specs.Receivers.{ViaIs}
 use Rattle.node_parts.specs.Change.{changed}
+use Rattle.node_parts.specs.Plans.{Plans}
+use Rattle.node_parts.specs.Sound.{IsSound}
 use Rattle.node_core.specs.Inputs.{plain_input}
-use Rattle.world_model.specs.Recorded.{Recorded, world_of, with_event, with_entry}
+use Rattle.world_model.specs.Recorded.{Recorded, setting_of, world_of, with_event}
 use Rattle.world_model.specs.Cells.{ids_of, id_at, AllStand}
-use Rattle.world_model.specs.Index.{ListsMessages, DeliversBelow}
-use Rattle.world_model.specs.Worlds.{IsWorld, IsPlanned, entry_by}
-use Rattle.world_model.proofs.MoreEvents.{IsWorld-with_event, comes-below, entry-of, get_or-last}
+use Rattle.world_model.specs.Index.{HasRoom, IsBelow, ListsMessages, delivered_by}
+use Rattle.world_model.specs.Worlds.{ComesTo, IsWorld}
+use Rattle.world_model.proofs.MoreEvents.{IsWorld-with_event, comes-below, receivers-with_event}
+use Rattle.world_model.proofs.Listing.{receivers-count}
+use Rattle.world_model.proofs.Happening.{IsWorld-kept, entry-made, more-sent}
 use Rattle.world_model.proofs.world.World.happen.Goals as goal
+use Rattle.world_model.proofs.world.World.happen.Goals.{After-sent}
 
-pub add-requires-clause-sent : goal.add-requires-clause-sent
-add-requires-clause-sent c =
-    let r : Recorded = c.args.self.now in
-    let v : Event = c.args.event in
-    let w : IsWorld c.self.inside.cells c.self.inside.messages r =
-    subst (λ (q : Recorded). IsWorld c.self.inside.cells c.self.inside.messages q) c.self.view_is c.self.invariant in
-    let same_entries : c.self.inside.entries ≡ r.entries = ap (λ (q : Recorded). q.entries) c.self.view_is in
-    let e : Entry = c.in_ok-change.field-0.entry in
-    let pushed : c.push.new.self ≡ r.entries ++ e ∷ [] = c.in_ok-push.ensures.ok ∙ ap (λ (es : List Entry). es ++ e ∷ []) same_entries in
-    let number : length c.as_slice-number.result.now ≡ length r.entries = ap (λ (es : List Entry). length es) (c.as_slice-number.ensures ∙ same_entries) in
-    let read : c.entry_at.result.now ≡ e =
-    c.entry_at.ensures ∙ ap (λ (es : List Entry). get_or es (length c.as_slice-number.result.now) c.entry_at.result.now) (c.as_slice-2.ensures ∙ pushed)
-    ∙ ap (λ (n : ℕ). get_or (r.entries ++ e ∷ []) n c.entry_at.result.now) number ∙ get_or-last r.entries e c.entry_at.result.now in
-    let planned : IsPlanned (world_of r).states (id_at c.self.inside.cells c.args.place) (plain_input c.args.input.now)
-    (length c.as_slice-number.result.now + 1) v c.in_ok-change.field-0 =
-    c.in_ok-change.ensures.planned (world_of r).states w.stand in
-    let named : c.entry_at.result.now.event ≡ v = ap (λ (d : Entry). d.event) (read ∙ planned.entry) in
-    let listed : ListsMessages c.reserve.new.self r.entries = c.in_ok-reserve.ensures.kept r.entries w.listed in
-    let count : vec_len c.reserve.new.self.delivered ≡ length (sent_in r.entries) = c.reserve.new.self.delivered.ok.0 ∙ listed.marks.count in
-    subst (λ (n : ℕ). DeliversBelow n c.entry_at.result.now.event) (sym count)
-    (subst (λ (d : Event). DeliversBelow (length (sent_in r.entries)) d) (sym named)
-    (comes-below r v c.args.place (plain_input c.args.input.now) c.requires.comes))
+pub input_of-input-requires : goal.input_of-input-requires
+input_of-input-requires c =
+    comes-below (record { nodes = ids_of c.self.inside.cells; founder = c.self.inside.founder; entries = c.self.inside.entries }) c.args.event c.args.place
+    (subst (λ (q : Recorded). ComesTo q c.args.event c.args.place) (sym c.self.view_is) c.requires.comes)
 
-pub same : (c : goal.After-add) → (record { nodes = ids_of c.commit.new.self; founder = c.self.inside.founder; entries = c.push.new.self })
-    ≡ with_event c.args.self.now c.args.event
+pub invariant_of-self-in_err-reserve : goal.invariant_of-self-in_err-reserve
+invariant_of-self-in_err-reserve c =
+    IsWorld-kept c.self.inside.cells c.prepare.new.self c.self.inside.messages c.reserve.new.self c.self.inside.founder c.self.inside.entries
+    c.self.inside.entries c.self.invariant c.prepare.ensures.ids refl c.prepare.ensures.stand c.reserve.ensures.kept
+
+pub invariant_of-self-in_err-add : goal.invariant_of-self-in_err-add
+invariant_of-self-in_err-add c =
+    IsWorld-kept c.self.inside.cells c.prepare.new.self c.self.inside.messages c.reserve.new.self c.self.inside.founder c.self.inside.entries
+    c.add.new.self c.self.invariant c.prepare.ensures.ids c.in_err-add.ensures.err c.prepare.ensures.stand c.reserve.ensures.kept
+
+-- ---- the record before, and the event that comes to it
+
+abbrev past : (c : After-sent) → Recorded
+past c = record { nodes = ids_of c.self.inside.cells; founder = c.self.inside.founder; entries = c.self.inside.entries }
+
+comes : (c : After-sent) → ComesTo (past c) c.args.event c.args.place
+comes c = subst (λ (q : Recorded). ComesTo q c.args.event c.args.place) (sym c.self.view_is) c.requires.comes
+
+fresh : (c : After-sent) → IsFresh (past c).entries c.args.event
+fresh c = subst (λ (q : Recorded). IsFresh q.entries c.args.event) (sym c.self.view_is) c.requires.fresh
+
+via : (c : After-sent) → ViaIs (setting_of (past c)) c.args.event
+via c = subst (λ (q : Recorded). ViaIs (setting_of q) c.args.event) (sym c.self.view_is) c.requires.via
+
+abbrev node : (c : After-sent) → ℕ
+node c = slice_index (past c).nodes c.args.place
+
+same_input : (c : After-sent) → plain_input c.input_of-input.result ≡ (comes c).input
+same_input c = c.input_of-input.ensures (record { node = node c; input = (comes c).input }) (comes c).is_at
+
+-- ---- what was prepared, and the entry that is made of it
+
+plans : (c : After-sent) →
+    Plans ((world_of (past c)).states (node c)) c.in_ok-messages.field-0 (step ((world_of (past c)).states (node c)) (plain_input c.input_of-input.result))
+plans c = c.in_ok-messages.ensures.plans (world_of (past c)).states c.self.invariant.stand
+
+abbrev entry : (c : After-sent) → Entry
+entry c =
+    record {
+      event = c.args.event;
+      messages = map (enveloped c.next_stamp-stamp.result c.id.result) c.in_ok-messages.field-0.messages;
+      notes = c.in_ok-messages.field-0.notes;
+    }
+
+entry_is : (c : After-sent) → entry c ≡ entry_of (world_of (past c)) c.args.event
+entry_is c =
+    entry-made (past c) c.args.event c.args.place (comes c) c.in_ok-messages.field-0 (plain_input c.input_of-input.result) c.next_stamp-stamp.result c.id.result
+    (same_input c) (plans c) c.next_stamp-stamp.ensures
+    (c.id.ensures ∙ ap (λ (ids : List ℕ). slice_index ids c.args.place) c.prepare.ensures.ids)
+
+added : (c : After-sent) → c.add.new.self ≡ (past c).entries ++ entry c ∷ []
+added c = c.in_ok-add.ensures.ok
+
+grown : (c : After-sent) → c.add.new.self ≡ (with_event (past c) c.args.event).entries
+grown c = added c ∙ ap (λ (e : Entry). (past c).entries ++ e ∷ []) (entry_is c)
+
+nodes_stay : (c : After-sent) → ids_of c.commit.new.self ≡ (past c).nodes
+nodes_stay c = c.commit.ensures.ids ∙ c.prepare.ensures.ids
+
+same : (c : After-sent) → (record { nodes = ids_of c.commit.new.self; founder = c.self.inside.founder; entries = c.add.new.self })
+    ≡ with_event (past c) c.args.event
 same c =
-    let r : Recorded = c.args.self.now in
-    let v : Event = c.args.event in
-    let i : Input = plain_input c.args.input.now in
-    let x : ℕ = slice_index r.nodes c.args.place in
-    let states : ℕ → State = (world_of r).states in
-    let w : IsWorld c.self.inside.cells c.self.inside.messages r =
-    subst (λ (q : Recorded). IsWorld c.self.inside.cells c.self.inside.messages q) c.self.view_is c.self.invariant in
-    let same_entries : c.self.inside.entries ≡ r.entries = ap (λ (q : Recorded). q.entries) c.self.view_is in
-    let same_nodes : ids_of c.self.inside.cells ≡ r.nodes = ap (λ (q : Recorded). q.nodes) c.self.view_is in
-    let e : Entry = c.in_ok-change.field-0.entry in
-    let number : length c.as_slice-number.result.now ≡ length r.entries = ap (λ (es : List Entry). length es) (c.as_slice-number.ensures ∙ same_entries) in
-    let planned : IsPlanned states x i (length c.as_slice-number.result.now + 1) v c.in_ok-change.field-0 =
-    subst (λ (y : ℕ). IsPlanned states y i (length c.as_slice-number.result.now + 1) v c.in_ok-change.field-0)
-    (ap (λ (ids : List ℕ). slice_index ids c.args.place) same_nodes)
-    (c.in_ok-change.ensures.planned states w.stand) in
-    let is : e ≡ entry_by (length r.entries + 1) x v (step (states x) i) = planned.entry ∙ ap (λ (n : ℕ). entry_by (n + 1) x v (step (states x) i)) number in
-    ap (λ (ids : List ℕ). record { nodes = ids; founder = c.self.inside.founder; entries = c.push.new.self }) (c.commit.ensures.ids ∙ c.plan.ensures.ids)
-    ∙ ap (λ (es : List Entry). record { nodes = ids_of c.self.inside.cells; founder = c.self.inside.founder; entries = es }) c.in_ok-push.ensures.ok
-    ∙ ap (λ (q : Recorded). with_entry q e) c.self.view_is
-    ∙ ap (λ (d : Entry). with_entry r d) (is ∙ sym (entry-of r v x i c.requires.comes.is_at))
+    ap (λ (ids : List ℕ). record { nodes = ids; founder = c.self.inside.founder; entries = c.add.new.self }) (nodes_stay c)
+    ∙ ap (λ (es : List Entry). record { nodes = (past c).nodes; founder = c.self.inside.founder; entries = es }) (grown c)
+
+-- ---- the messages, with those of the entry
+
+listed : (c : After-sent) → ListsMessages c.reserve.new.self (past c).nodes (past c).entries
+listed c = c.reserve.ensures.kept (past c).nodes (past c).entries c.self.invariant.listed
+
+sent : (c : After-sent) → length c.sent.result.now ≡ length c.reserve.new.self.receivers.items + length (entry c).messages
+sent c = more-sent c.reserve.new.self (past c).nodes (past c).entries c.add.new.self (entry c) c.sent.result.now (listed c) (added c) c.sent.ensures
+
+pub add-requires-2-clause-more : goal.add-requires-2-clause-more
+add-requires-2-clause-more c = let s = sent c in let v = c.reserve.new.self.receivers.ok.0 in omega arith
+
+pub add-requires-2-clause-same : goal.add-requires-2-clause-same
+add-requires-2-clause-same c =
+    c.reserve.new.self.receivers.ok.0
+    ∙ receivers-count c.reserve.new.self.receivers.items (past c).nodes (sent_in (past c).entries) (listed c).receivers
+    ∙ sym (listed c).marks.count ∙ sym c.reserve.new.self.delivered.ok.0
+
+pub add-requires-2-clause-room : goal.add-requires-2-clause-room
+add-requires-2-clause-room c =
+    let count : length (entry c).messages ≡ length c.as_slice.result.now =
+    length-map c.in_ok-messages.field-0.messages (enveloped c.next_stamp-stamp.result c.id.result) ∙ ap length (sym c.as_slice.ensures)
+    ∙ length-map c.as_slice.result.now plain_sent in
+    let rest : length c.as_slice.result.now ≡ length c.sent.result.now - vec_len c.reserve.new.self.receivers =
+    let s = sent c in let v = c.reserve.new.self.receivers.ok.0 in omega arith in
+    subst (λ (k : ℕ). HasRoom c.reserve.new.self k) rest c.in_ok-reserve.ensures.room
+
+pub add-requires-2-clause-below : goal.add-requires-2-clause-below
+add-requires-2-clause-below c =
+    subst (λ (o : Option ℕ). IsBelow (vec_len c.reserve.new.self.delivered) o) (sym c.delivered_message-delivered.ensures)
+    (subst (λ (k : ℕ). IsBelow k (delivered_by c.args.event)) (sym (c.reserve.new.self.delivered.ok.0 ∙ (listed c).marks.count))
+    (comes-below (past c) c.args.event c.args.place (comes c)))
+
+pub add-requires-2-clause-nodes : goal.add-requires-2-clause-nodes
+add-requires-2-clause-nodes c =
+    subst (λ (vs : List Envelope). All (λ (v : Envelope). Contains (ids_of c.commit.new.self) v.receiver) vs) (sym (c.sent.ensures ∙ ap sent_in (grown c)))
+    (subst (λ (ids : List ℕ). All (λ (v : Envelope). Contains ids v.receiver) (sent_in (with_event (past c) c.args.event).entries)) (sym (nodes_stay c))
+    (receivers-with_event c.self.inside.cells c.self.inside.messages (past c) c.args.event c.args.place c.self.invariant (comes c) (fresh c)
+    c.said_law.ensures (via c)))
+
+-- ---- the world after it
+
+stands : (c : After-sent) →
+    AllStand c.commit.new.self (state_at (world_of (past c)).states (node c) (step ((world_of (past c)).states (node c)) (comes c).input).state)
+stands c =
+    let states : ℕ → State = (world_of (past c)).states in
+    let t : State = (step (states (node c)) (comes c).input).state in
+    let at : id_at c.prepare.new.self c.args.place ≡ node c = ap (λ (ids : List ℕ). slice_index ids c.args.place) c.prepare.ensures.ids in
+    subst (λ (y : ℕ). AllStand c.commit.new.self (state_at states y t)) at
+    (c.commit.ensures.stand states t (c.prepare.ensures.stand states c.self.invariant.stand)
+    (ap (λ (y : ℕ). changed c.in_ok-messages.field-0.change (states y)) at ∙ (plans c).state
+    ∙ ap (λ (i : Input). (step (states (node c)) i).state) (same_input c))
+    (subst (λ (i : Input). IsSound (step (states (node c)) i).state) (same_input c) (c.prepare.ensures.sound states c.self.invariant.stand)))
 
 pub invariant_of-self-2 : goal.invariant_of-self-2
 invariant_of-self-2 c =
-    let r : Recorded = c.args.self.now in
-    let v : Event = c.args.event in
-    let i : Input = plain_input c.args.input.now in
-    let x : ℕ = slice_index r.nodes c.args.place in
-    let states : ℕ → State = (world_of r).states in
-    let t : State = (step (states x) i).state in
-    let w : IsWorld c.self.inside.cells c.self.inside.messages r =
-    subst (λ (q : Recorded). IsWorld c.self.inside.cells c.self.inside.messages q) c.self.view_is c.self.invariant in
-    let same_entries : c.self.inside.entries ≡ r.entries = ap (λ (q : Recorded). q.entries) c.self.view_is in
-    let same_nodes : ids_of c.self.inside.cells ≡ r.nodes = ap (λ (q : Recorded). q.nodes) c.self.view_is in
-    let e : Entry = c.in_ok-change.field-0.entry in
-    let number : length c.as_slice-number.result.now ≡ length r.entries = ap (λ (es : List Entry). length es) (c.as_slice-number.ensures ∙ same_entries) in
-    let planned : IsPlanned states x i (length c.as_slice-number.result.now + 1) v c.in_ok-change.field-0 =
-    subst (λ (y : ℕ). IsPlanned states y i (length c.as_slice-number.result.now + 1) v c.in_ok-change.field-0)
-    (ap (λ (ids : List ℕ). slice_index ids c.args.place) same_nodes)
-    (c.in_ok-change.ensures.planned states w.stand) in
-    let is : e ≡ entry_by (length r.entries + 1) x v (step (states x) i) = planned.entry ∙ ap (λ (n : ℕ). entry_by (n + 1) x v (step (states x) i)) number in
-    let pushed : c.push.new.self ≡ r.entries ++ e ∷ [] = c.in_ok-push.ensures.ok ∙ ap (λ (es : List Entry). es ++ e ∷ []) same_entries in
-    let read : c.entry_at.result.now ≡ e =
-    c.entry_at.ensures ∙ ap (λ (es : List Entry). get_or es (length c.as_slice-number.result.now) c.entry_at.result.now) (c.as_slice-2.ensures ∙ pushed)
-    ∙ ap (λ (n : ℕ). get_or (r.entries ++ e ∷ []) n c.entry_at.result.now) number ∙ get_or-last r.entries e c.entry_at.result.now in
-    let at : id_at c.plan.new.cells c.args.place ≡ x = ap (λ (ids : List ℕ). slice_index ids c.args.place) (c.plan.ensures.ids ∙ same_nodes) in
-    let stand : AllStand c.commit.new.self (state_at states x t) =
-    subst (λ (y : ℕ). AllStand c.commit.new.self (state_at states y t)) at
-    (c.commit.ensures.stand states t (c.plan.ensures.stand states w.stand)
-    (ap (λ (y : ℕ). changed c.in_ok-change.field-0.change (states y)) at ∙ planned.state) planned.sound) in
-    let listed : ListsMessages c.reserve.new.self r.entries = c.in_ok-reserve.ensures.kept r.entries w.listed in
-    let added : ListsMessages c.add.new.self (r.entries ++ c.entry_at.result.now ∷ []) = c.add.ensures r.entries listed (sym number) in
-    subst (λ (q : Recorded). IsWorld c.commit.new.self c.add.new.self q) (sym (same c))
-    (IsWorld-with_event c.self.inside.cells c.commit.new.self c.self.inside.messages c.add.new.self r v c.args.place i w c.requires.comes c.requires.fresh
-    c.said_law.ensures c.requires.via stand
-    (subst (λ (d : Entry). ListsMessages c.add.new.self (r.entries ++ d ∷ [])) (read ∙ is) added))
+    let b : After-sent = (goal.at.invariant_of-self-2 c).After-sent in
+    let lists : ListsMessages c.add-2.new.self (ids_of c.commit.new.self) ((past b).entries ++ entry b ∷ []) =
+    c.add-2.ensures (past b).entries (entry b)
+    (subst (λ (ids : List ℕ). ListsMessages c.reserve.new.self ids (past b).entries) (sym (nodes_stay b)) (listed b))
+    c.delivered_message-delivered.ensures (c.sent.ensures ∙ ap sent_in (added b)) in
+    subst (λ (q : Recorded). IsWorld c.commit.new.self c.add-2.new.self q) (sym (same b))
+    (IsWorld-with_event c.self.inside.cells c.commit.new.self c.self.inside.messages c.add-2.new.self (past b) c.args.event c.args.place c.self.invariant
+    (comes b) (fresh b) c.said_law.ensures (via b) (stands b)
+    (subst (λ (ids : List ℕ). ListsMessages c.add-2.new.self ids (with_event (past b) c.args.event).entries) (nodes_stay b)
+    (subst (λ (e : Entry). ListsMessages c.add-2.new.self (ids_of c.commit.new.self) ((past b).entries ++ e ∷ [])) (entry_is b) lists)))
 
 pub returns-clause-ok : goal.returns-clause-ok
-returns-clause-ok c = same c
+returns-clause-ok c =
+    same (goal.at.returns-clause-ok c).After-sent ∙ ap (λ (q : Recorded). with_event q c.args.event) c.self.view_is

@@ -1,0 +1,156 @@
+//! How a record keeps its entries: in three lists, so that no entry has memory of its own.
+
+ghost use Rattle.std.specs.Prelude.{◌≡◌, ◌<◌, ◌≤◌, ◌+◌, ◌++◌, ◌∷◌, [], Some, length, map, slice_get, vec_len, vec_capacity, slice_range, IfOk, OnOk};
+ghost use Rattle.wire_msg.specs.Words.{plain_envelope, plain_sent};
+ghost use Rattle.overlay_rules.specs.Record.{enveloped};
+ghost use Rattle.overlay_rules.specs.Flat.{CutsWell, HasRoom, SameLists, cut, event_kept, noted_start, sent_start};
+ghost use Rattle.overlay_rules.specs.Seen.{entry_seen, event_seen};
+
+use crate::entry::{EntryRef, Event, EventRef};
+use ring_math::{Id, OutOfMemory};
+use std::alloc::Global;
+use wire_msg::{Envelope, Note, Outgoing};
+
+/// An event in little room. Most events deliver a message; the others are boxed, so that they do not cost each entry their size.
+#[derive(Drop)]
+pub(crate) enum CompactEvent {
+    Deliver { message: u64 },
+    Boxed(Box<Event>),
+}
+
+impl CompactEvent {
+    pub(crate) fn of(event: Event, alloc: Global) -> Result<CompactEvent, OutOfMemory>
+        ensures { IfOk result (λ kept. event_kept kept ≡ event) }
+    {
+        match event {
+            Event::Deliver { message } => Ok(CompactEvent::Deliver { message }),
+            other => Ok(CompactEvent::Boxed(Box::new(alloc, other)?)),
+        }
+    }
+
+    pub(crate) fn seen(&self) -> EventRef<'_>
+        ensures { event_seen result ≡ event_kept self.now }
+    {
+        match self {
+            CompactEvent::Deliver { message } => EventRef::Deliver { message: *message },
+            CompactEvent::Boxed(event) => event.seen(),
+        }
+    }
+}
+
+/// An entry's event, and where what it sent and noted ends among all that was sent and noted.
+#[derive(Drop)]
+pub(crate) struct CompactEntry {
+    pub(crate) event: CompactEvent,
+    pub(crate) sent_end: usize,
+    pub(crate) noted_end: usize,
+}
+
+/// Where what an entry sent and noted begins.
+#[derive(Clone, Copy)]
+struct Starts {
+    sent: usize,
+    noted: usize,
+}
+
+/// The entries of a record, and all that they sent and noted.
+#[derive(Drop)]
+pub(crate) struct Lists {
+    pub(crate) entries: Vec<CompactEntry>,
+    pub(crate) sent: Vec<Envelope>,
+    pub(crate) notes: Vec<Note>,
+}
+
+impl Lists {
+    /// Room for one more entry, with so many messages and notes.
+    pub(crate) fn reserve(&mut self, sent: usize, noted: usize) -> Result<(), OutOfMemory>
+        ensures same { SameLists self.old self.new }
+        ensures room { OnOk result (HasRoom self.new sent noted) }
+    {
+        self.entries.reserve(1)?;
+        self.sent.reserve(sent)?;
+        self.notes.reserve(noted)?;
+        Ok(())
+    }
+
+    /// One entry more: it has what lies behind the last ends. There is room for it.
+    pub(crate) fn close(&mut self, event: CompactEvent)
+        requires { vec_len self.old.entries < vec_capacity self.old.entries }
+        ensures entries { self.new.entries.items
+            ≡ self.old.entries.items ++ record { event = event; sent_end = length self.new.sent.items; noted_end = length self.new.notes.items } ∷ [] }
+        ensures sent { self.new.sent.items ≡ self.old.sent.items }
+        ensures notes { self.new.notes.items ≡ self.old.notes.items }
+    {
+        self.entries.push_reserved(CompactEntry {
+            event,
+            sent_end: self.sent.len(),
+            noted_end: self.notes.len(),
+        });
+    }
+
+    /// The entry at a place.
+    pub(crate) fn at(&self, place: usize) -> EntryRef<'_>
+        requires within { place < length self.now.entries.items }
+        requires well { CutsWell self.now }
+        ensures { slice_get (cut self.now) place ≡ Some (entry_seen result) }
+    {
+        let entry = &self.entries[place];
+        let starts = self.starts(place);
+        EntryRef {
+            event: entry.event.seen(),
+            messages: between(&self.sent, starts.sent, entry.sent_end),
+            notes: between(&self.notes, starts.noted, entry.noted_end),
+        }
+    }
+
+    /// Where what an entry sent and noted begins: at the ends of the entry before it.
+    fn starts(&self, place: usize) -> Starts
+        requires { place < length self.now.entries.items }
+        ensures sent { result.sent ≡ sent_start 0 self.now.entries.items place }
+        ensures noted { result.noted ≡ noted_start 0 self.now.entries.items place }
+    {
+        match place.checked_sub(1) {
+            Some(before) => {
+                let before = &self.entries[before];
+                Starts {
+                    sent: before.sent_end,
+                    noted: before.noted_end,
+                }
+            }
+            None => Starts { sent: 0, noted: 0 },
+        }
+    }
+}
+
+/// The part of a list between two places.
+fn between<T>(items: &[T], start: usize, end: usize) -> &[T]
+    requires order { start ≤ end }
+    requires within { end ≤ length items.now }
+    ensures { result.now ≡ slice_range items.now start end }
+{
+    &items[start..end]
+}
+
+/// Adds each message in an envelope from this sender, with this stamp. The messages are moved, and not copied.
+pub(crate) fn send_all(sent: &mut Vec<Envelope>, stamp: u64, sender: Id, messages: Vec<Outgoing>)
+    requires { vec_len sent.old + vec_len messages ≤ vec_capacity sent.old }
+    ensures items { map plain_envelope sent.new.items ≡ map plain_envelope sent.old.items ++ map (enveloped stamp sender) (map plain_sent messages.items) }
+{
+    for outgoing in messages {
+        sent.push_reserved(Envelope {
+            sender,
+            receiver: outgoing.receiver,
+            stamp,
+            message: outgoing.message,
+        });
+    }
+}
+
+/// Adds items for which there is room.
+pub(crate) fn move_all<T: Drop>(to: &mut Vec<T>, from: Vec<T>)
+    requires { vec_len to.old + vec_len from ≤ vec_capacity to.old }
+    ensures items { to.new.items ≡ to.old.items ++ from.items }
+{
+    let mut from = from;
+    let _ = to.append(&mut from);
+}
