@@ -1,0 +1,80 @@
+use Rattle.std.proofs.Common.{◌≡◌, ◌∙◌, ◌++◌, ◌∷◌, [], ℕ, List, sym, ap, subst}
+use Rattle.std.proofs.lemmas.List.{map-append}
+use Rattle.node_parts.specs.Seen.{Stands}
+use Rattle.weave_laws.specs.Cells.{CellInput, CellEntry, stepped}
+use Rattle.node_cell.specs.declared.entry.CellEntry.{CellEntry as CodeEntry}
+use Rattle.node_cell.specs.declared.frames.Addressed.{Addressed}
+use Rattle.node_cell.specs.Entries.{plain_entry, plain_history, plain_input_of}
+use Rattle.node_cell.specs.Cell.{Cell, state_of, entry_next, with_input}
+use Rattle.node_cell.specs.Kept.{IsCell, IsPlanned}
+use Rattle.node_cell.proofs.Growing.{cell_grows}
+use Rattle.node_cell.proofs.cell.NodeCell.take_in.Goals as goal
+
+-- the cell as it was
+kept : (c : goal.After-self-1) → IsCell c.self.inside.node c.self.inside.stamp c.args.self.now
+kept c = subst (λ (q : Cell). IsCell c.self.inside.node c.self.inside.stamp q) c.self.view_is c.self.invariant
+
+-- what was planned, as of the cell's own state and stamp
+planned : (c : goal.After-self-1) → let i : CellInput = plain_input_of c.args.input in let r : Cell = c.args.self.now in
+    IsPlanned r.node (state_of r) (entry_next r i).stamp i c.in_ok-change.field-0
+planned c =
+    let r : Cell = c.args.self.now in
+    let i : CellInput = plain_input_of c.args.input in
+    subst (λ (n : ℕ). IsPlanned r.node (state_of r) n i c.in_ok-change.field-0) c.in_ok-stamp.ensures.ok
+    (subst (λ (x : ℕ). IsPlanned x (state_of r) c.in_ok-stamp.stamp i c.in_ok-change.field-0) (ap (λ (q : Cell). q.node) c.self.view_is)
+    (c.in_ok-change.ensures.planned (state_of r) (kept c).stands))
+
+longer : (c : goal.After-self-1) → plain_history c.push_reserved.new.self.items ≡ (with_input c.args.self.now (plain_input_of c.args.input)).history
+longer c =
+    let r : Cell = c.args.self.now in
+    let entry : CodeEntry = c.in_ok-change.field-0.entry in
+    ap plain_history (c.push_reserved.ensures.items ∙ ap (λ (es : List CodeEntry). es ++ entry ∷ []) c.in_ok-reserve.ensures.items)
+    ∙ map-append plain_entry c.self.inside.history.items (entry ∷ [])
+    ∙ ap (λ (es : List CellEntry). es ++ plain_entry entry ∷ []) (ap (λ (q : Cell). q.history) c.self.view_is)
+    ∙ ap (λ (e : CellEntry). r.history ++ e ∷ []) (planned c).entry
+
+more_frames : (c : goal.After-self-1) → c.append.new.unsent.items ≡ (with_input c.args.self.now (plain_input_of c.args.input)).unsent
+more_frames c =
+    let r : Cell = c.args.self.now in
+    let frames : List Addressed = c.in_ok-change.field-0.frames.items in
+    c.append.ensures
+    ∙ ap (λ (us : List Addressed). us ++ frames) (c.in_ok-reserve-2.ensures.items ∙ ap (λ (q : Cell). q.unsent) c.self.view_is)
+    ∙ ap (λ (fs : List Addressed). r.unsent ++ fs) (planned c).frames
+
+same : (c : goal.After-self-1) → (record {
+  node = c.commit.new.self.me;
+  is_founder = c.self.inside.is_founder;
+  history = plain_history c.push_reserved.new.self.items;
+  unsent = c.append.new.unsent.items;
+}) ≡ with_input c.args.self.now (plain_input_of c.args.input)
+same c =
+    let history : List CellEntry = plain_history c.push_reserved.new.self.items in
+    let unsent : List Addressed = c.append.new.unsent.items in
+    ap (λ (x : ℕ). record { node = x; is_founder = c.self.inside.is_founder; history = history; unsent = unsent })
+    (c.commit.ensures.me ∙ c.plan.ensures.me)
+    ∙ ap (λ (q : Cell). record q { history = history; unsent = unsent }) c.self.view_is
+    ∙ ap (λ (es : List CellEntry). record c.args.self.now { history = es; unsent = unsent }) (longer c)
+    ∙ ap (λ (us : List Addressed). record c.args.self.now {
+      history = (with_input c.args.self.now (plain_input_of c.args.input)).history;
+      unsent = us;
+    }) (more_frames c)
+
+-- the node stands for the state after the step
+stands_after : (c : goal.After-self-1) → let r : Cell = c.args.self.now in
+    Stands c.commit.new.self (stepped (state_of r) (entry_next r (plain_input_of c.args.input)))
+stands_after c =
+    let r : Cell = c.args.self.now in
+    c.commit.ensures.stands (state_of r) (stepped (state_of r) (entry_next r (plain_input_of c.args.input)))
+    (c.plan.ensures.stand (state_of r) (kept c).stands) (planned c).state (planned c).sound
+
+pub invariant_of-self-2 : goal.invariant_of-self-2
+invariant_of-self-2 c =
+    let r : Cell = c.args.self.now in
+    let i : CellInput = plain_input_of c.args.input in
+    subst (λ (q : Cell). IsCell c.commit.new.self c.in_ok-stamp.stamp q) (sym (same c))
+    (subst (λ (n : ℕ). IsCell c.commit.new.self n (with_input r i)) (sym c.in_ok-stamp.ensures.ok)
+    (cell_grows c.self.inside.node c.commit.new.self c.self.inside.stamp r i (kept c) c.requires.addressed c.requires.numbered
+    (planned c).spelled (stands_after c)))
+
+pub returns-clause-ok : goal.returns-clause-ok
+returns-clause-ok c = same c

@@ -1,0 +1,90 @@
+//! The frames of what a step sends.
+
+ghost use Rattle.std.specs.Prelude.{◌≡◌, ◌++◌, IfOk, map, vec_len, ◌+◌, ◌≤◌, All};
+ghost use Rattle.std.specs.VecDeque.{deque_len, deque_capacity};
+ghost use Rattle.overlay_rules.specs.Record.{enveloped};
+ghost use Rattle.wire_msg.specs.Words.{plain_envelope, plain_sent};
+ghost use Rattle.node_cell.specs.Cell.{frame_of};
+ghost use Rattle.node_cell.specs.Kept.{HasFrame};
+
+use ring_math::{Id, OutOfMemory};
+use std::alloc::Global;
+use std::collections::VecDeque;
+use wire_codec::encode;
+use wire_msg::{Envelope, Envelopes, Frame, Outgoing, Sends};
+
+/// A frame, and whom it is for.
+#[derive(Drop)]
+pub(crate) struct Addressed {
+    pub(crate) receiver: Id,
+    pub(crate) frame: Frame,
+}
+
+/// Each message in an envelope from this sender, with this stamp. The messages are moved, and not copied.
+pub(crate) fn envelopes_of(
+    alloc: Global,
+    stamp: u64,
+    sender: Id,
+    sends: Sends,
+) -> Result<Envelopes, OutOfMemory>
+    ensures { IfOk result (λ envelopes. envelopes ≡ map (enveloped stamp sender) sends) }
+{
+    let envelopes = each_in_envelope(alloc, stamp, sender, sends.into_items())?;
+    Ok(Envelopes::of(envelopes))
+}
+
+fn each_in_envelope(
+    alloc: Global,
+    stamp: u64,
+    sender: Id,
+    messages: Vec<Outgoing>,
+) -> Result<Vec<Envelope>, OutOfMemory>
+    ensures { IfOk result (λ envelopes. map plain_envelope envelopes.items ≡ map (enveloped stamp sender) (map plain_sent messages.items)) }
+{
+    let envelopes = messages
+        .into_iter()
+        .map(|sent| Envelope {
+            sender,
+            receiver: sent.receiver,
+            stamp,
+            message: sent.message,
+        })
+        .collect(alloc)?;
+    Ok(envelopes)
+}
+
+/// The frame of each envelope, in this order.
+pub(crate) fn frames_of(
+    alloc: Global,
+    envelopes: &[Envelope],
+) -> Result<Vec<Addressed>, OutOfMemory>
+    ensures frames { IfOk result (λ frames. frames.items ≡ map frame_of (map plain_envelope envelopes.now)) }
+    ensures spelled { IfOk result (λ frames. All HasFrame (map plain_envelope envelopes.now)) }
+{
+    let mut frames = Vec::with_capacity(alloc, envelopes.len())?;
+    for envelope in envelopes {
+        frames.push(frame_of(alloc, envelope)?)?;
+    }
+    Ok(frames)
+}
+
+fn frame_of(alloc: Global, envelope: &Envelope) -> Result<Addressed, OutOfMemory>
+    ensures frame { IfOk result (λ made. made ≡ frame_of (plain_envelope envelope.now)) }
+    ensures spelled { IfOk result (λ made. HasFrame (plain_envelope envelope.now)) }
+{
+    let frame = encode(alloc, envelope)?;
+    Ok(Addressed {
+        receiver: envelope.receiver,
+        frame,
+    })
+}
+
+/// Adds the frames at the end, into room that was taken.
+pub(crate) fn append(unsent: &mut VecDeque<Addressed>, frames: Vec<Addressed>)
+    requires { deque_len unsent.old + vec_len frames ≤ deque_capacity unsent.old }
+    ensures { unsent.new.items ≡ unsent.old.items ++ frames.items }
+{
+    for frame in frames {
+        let _ = unsent.push_back(frame);
+    }
+}

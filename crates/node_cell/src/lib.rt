@@ -1,0 +1,19 @@
+//! A cell: a node with the history of all that came to it, and the frames that it is to send.
+//!
+//! A cell takes in one input after another. Its stamps are Lamport's: each is greater than the one before it and than that of
+//! the message that came in, so the stamps of all cells together extend the order in which things could cause one another.
+#![tactic(auto)]
+
+mod cell;
+mod entry;
+mod fault;
+mod frames;
+mod plan;
+mod reading;
+
+pub use cell::NodeCell;
+pub use entry::{CellEntry, CellInput};
+pub use fault::CellFault;
+
+#[cfg(test)]
+mod tests;
