@@ -1,24 +1,27 @@
--- Each value that a simple command finds for an argument, where it refuses nothing, passed the argument's parser: the walk over
--- the words adds values only by uses, and a use of values that do not pass is refused.
+-- What a simple command finds for an argument, where it refuses nothing, are values that passed the argument's parser: the walk
+-- over the words adds values only by uses, and a use of no value, or of values that do not pass, is refused. So an argument that is
+-- given has such a value.
 use Rattle.std.proofs.Common.{◌≡◌, ◌∙◌, ◌&&◌, ◌||◌, ℕ, Bool, cond, true, false, zero, suc, refl, sym, ap, ap₂, subst, arith, List, [], ◌∷◌, ◌++◌, Option, Some}
 use Rattle.std.proofs.Common.{None}
 use Rattle.std.proofs.lemmas.Bool.{eqb-true}
 use Rattle.std.proofs.lemmas.Slice.Eq.{bytes_eq-Decides}
-use Rattle.std.specs.Prelude.{find, fold, slice_get, drop, length, encode_utf8, is_some}
-use Rattle.std.specs.Option.{option_map_or}
+use Rattle.std.specs.Prelude.{find, fold, slice_get, drop, length, encode_utf8, is_some, nat_lt}
+use Rattle.std.specs.Option.{option_map_or, option_and_then}
 use Rattle.std.specs.Str.{bytes_eq, chars}
 use Rattle.clap.specs.Lexer.{long_of, short_of}
-use Rattle.clap.specs.Facts.{parser_of_value}
+use Rattle.clap.specs.Facts.{explicit_source, parser_of_value, unwrap_or_range}
 use Rattle.clap.specs.Values.{reading_of}
 use Rattle.clap.specs.ValueTests.{accepts}
-use Rattle.clap.specs.Kinds.{Kinds, or_else, value_kinds, values_kinds}
+use Rattle.clap.specs.Kinds.{Kinds, or_else, range_kinds, value_kinds, values_kinds}
 use Rattle.clap.specs.Simple.{Shape}
 use Rattle.clap.specs.Faults.{action_fault, use_fault, settle_fault, react_fault, option_fault, long_fault, short_fault, bundle_step_fault, flags_fault}
 use Rattle.clap.specs.Faults.{bundle_fault, flag_word_fault, other_fault, word_fault, positional_fault, step_fault, turn_fault, walk_fault, default_fault}
-use Rattle.clap.specs.Faults.{defaults_fault, given_default_fault, level_fault}
+use Rattle.clap.specs.Faults.{check_fault, defaults_fault, given_default_fault, level_fault}
 use Rattle.clap.specs.Walk.{Held, Names, Outcome, Row, Rule, Step, Text, Waiting, Walk, idle, option, positional, done, waits, plain, refused, next, trailing}
 use Rattle.clap.specs.Walk.{subcommand, value, action_of, after_flag, after_step, arg_by_id, arg_by_index, arg_by_long, arg_by_short, at_row, attached_value}
+use Rattle.clap.specs.Takes.{is_given}
 use Rattle.clap.specs.Walk.{bundle_met, bundle_step, default_rows, finished, flag_met, has_row, is_empty, is_pending, long_met, long_or_other, more_values}
+use Rattle.clap.specs.Walk.{first_of, most_values}
 use Rattle.clap.specs.Walk.{option_met, option_word, plain_word, reacted, reading_by, settled, settled_rows, short_met, short_or_plain, subcommand_met}
 use Rattle.clap.specs.Walk.{subcommand_or_other, takes_several, takes_values, to_positional, used, used_as, used_by_id, values_or_missing, walk, walk_from}
 use Rattle.clap.specs.Walk.{walked, walked_from, with_default, with_values, without, word_met}
@@ -27,7 +30,7 @@ use Rattle.clap.specs.declared.builder.action.ArgAction.TheVariants.{Set}
 use Rattle.clap.specs.declared.builder.value_parser.Reading.{Reading}
 use Rattle.clap.specs.declared.builder.value_parser.ValueParser.{ValueParser}
 use Rattle.clap.specs.declared.error.kind.ErrorKind.{ErrorKind}
-use Rattle.clap.specs.declared.error.kind.ErrorKind.TheVariants.{TooManyValues}
+use Rattle.clap.specs.declared.error.kind.ErrorKind.TheVariants.{InvalidValue, TooManyValues}
 use Rattle.clap.specs.declared.parser.matches.ValueSource.{ValueSource}
 use Rattle.clap.specs.declared.parser.matches.ValueSource.TheVariants.{CommandLine, DefaultValue}
 
@@ -48,20 +51,29 @@ module _ (id : Text) (q : ValueParser) where
   EachPasses [] = Unit {0}
   EachPasses (v ∷ vs) = (accepts false q v ≡ true) × EachPasses vs
 
+  abbrev HasValue : List Text → Type 0
+  HasValue [] = ⊥
+  HasValue (v ∷ vs) = Unit {0}
+
+  -- there is a value, and each passes
+  abbrev pub ArePassed : List Text → Type 0
+  ArePassed vs = HasValue vs × EachPasses vs
+
   -- a row of the argument has values that passed, and is read as the parser says
   pub record Fit (r : Row) : Type 0 where
-    pub values : bytes_eq r.id id ≡ true → EachPasses r.values
+    pub values : bytes_eq r.id id ≡ true → ArePassed r.values
     pub reading : bytes_eq r.id id ≡ true → r.reading ≡ reading_of q
 
   abbrev pub AllFit : List Row → Type 0
   AllFit [] = Unit {0}
   AllFit (r ∷ rs) = Fit r × AllFit rs
 
-  -- a rule sets its values, and the argument's has the parser
+  -- a rule sets its values, and the argument's has the parser and wants a value
   pub record IsGood (a : Rule) : Type 0 where
     pub sets : action_of a ≡ Set
     pub parser : bytes_eq a.id id ≡ true → parser_of_value a.parser ≡ q
     pub case_counts : bytes_eq a.id id ≡ true → a.ignore_case ≡ false
+    pub wants_value : bytes_eq a.id id ≡ true → nat_lt 0 (unwrap_or_range a.range).start_inclusive ≡ true
 
   abbrev pub AllGood : List Rule → Type 0
   AllGood [] = Unit {0}
@@ -78,6 +90,10 @@ module _ (id : Text) (q : ValueParser) where
   append_passing : (vs ws : List Text) → EachPasses vs → EachPasses ws → EachPasses (vs ++ ws)
   append_passing [] ws h k = k
   append_passing (v ∷ vs) ws h k = (h.0, append_passing vs ws h.1 k)
+
+  append_passed : (vs ws : List Text) → ArePassed vs → ArePassed ws → ArePassed (vs ++ ws)
+  append_passed [] ws h k = k
+  append_passed (v ∷ vs) ws h k = (tt, append_passing (v ∷ vs) ws h.1 k.1)
 
   append_fit : (rs ts : List Row) → AllFit rs → AllFit ts → AllFit (rs ++ ts)
   append_fit [] ts h k = k
@@ -98,31 +114,41 @@ module _ (id : Text) (q : ValueParser) where
   key_is : (r key : Text) → bytes_eq r key ≡ true → bytes_eq r id ≡ true → bytes_eq key id ≡ true
   key_is r key same is = (bytes_eq-Decides key id).1 (sym ((bytes_eq-Decides r key).0 same) ∙ (bytes_eq-Decides r id).0 is)
 
-  with_values_fit : (key : Text) (how : Reading) (s : ValueSource) (vs : List Text) (rows : List Row) → (bytes_eq key id ≡ true → EachPasses vs) →
+  with_values_fit : (key : Text) (how : Reading) (s : ValueSource) (vs : List Text) (rows : List Row) → (bytes_eq key id ≡ true → ArePassed vs) →
       (bytes_eq key id ≡ true → how ≡ reading_of q) → AllFit rows → AllFit (with_values key how s vs rows)
   with_values_fit key how s vs rows passes reads h =
       at_row_fit key (more_values s vs) _ rows
-      (λ r same fit. (record { values = λ is. append_passing r.values vs (fit.values is) (passes (key_is r.id key same is)); reading = fit.reading }, tt))
+      (λ r same fit. (record { values = λ is. append_passed r.values vs (fit.values is) (passes (key_is r.id key same is)); reading = fit.reading }, tt))
       (record { values = passes; reading = reads }, tt) h
 
-  good_values : (a : Rule) → IsGood a → (vs : List Text) → values_kinds a.ignore_case (parser_of_value a.parser) vs ≡ [] → bytes_eq a.id id ≡ true →
-      EachPasses vs
-  good_values a g vs e is =
-      passing vs (sym (ap₂ (λ (b : Bool) (p : ValueParser). values_kinds b p vs) (g.case_counts is) (g.parser is)) ∙ e)
+  good_values : (a : Rule) → IsGood a → (vs : List Text) → (bytes_eq a.id id ≡ true → HasValue vs) →
+      values_kinds a.ignore_case (parser_of_value a.parser) vs ≡ [] → bytes_eq a.id id ≡ true → ArePassed vs
+  good_values a g vs some e is =
+      (some is, passing vs (sym (ap₂ (λ (b : Bool) (p : ValueParser). values_kinds b p vs) (g.case_counts is) (g.parser is)) ∙ e))
+
+  no_value : (wants : Bool) (otherwise : Kinds) → wants ≡ true → cond (wants && true) (InvalidValue ∷ []) otherwise ≡ [] → ⊥
+  no_value true otherwise is e = cc
+  no_value false otherwise is e = cc
+
+  -- a use that is in the range has a value
+  used_value : (a : Rule) → IsGood a → (vs : List Text) →
+      range_kinds (unwrap_or_range a.range).start_inclusive (most_values a) (length vs) ≡ [] → bytes_eq a.id id ≡ true → HasValue (values_or_missing a vs)
+  used_value a g [] e is = absurd (no_value (nat_lt 0 (unwrap_or_range a.range).start_inclusive) _ (g.wants_value is) e)
+  used_value a g (v ∷ vs) e is = tt
 
   good_reading : (a : Rule) → IsGood a → bytes_eq a.id id ≡ true → reading_by a ≡ reading_of q
   good_reading a g is = ap reading_of (g.parser is)
 
-  used_as_fit : (again : Bool) (a : Rule) → IsGood a → (vs : List Text) (rows : List Row) → action_fault Set again a vs rows ≡ [] → AllFit rows →
-      AllFit (used_as Set a.id (reading_by a) vs rows)
-  used_as_fit again a g vs rows e h =
-      with_values_fit a.id (reading_by a) CommandLine vs (without a.id rows) (good_values a g vs (both_empty _ _ e).1) (good_reading a g)
+  used_as_fit : (again : Bool) (a : Rule) → IsGood a → (vs : List Text) (rows : List Row) → (bytes_eq a.id id ≡ true → HasValue vs) →
+      action_fault Set again a vs rows ≡ [] → AllFit rows → AllFit (used_as Set a.id (reading_by a) vs rows)
+  used_as_fit again a g vs rows some e h =
+      with_values_fit a.id (reading_by a) CommandLine vs (without a.id rows) (good_values a g vs some (both_empty _ _ e).1) (good_reading a g)
       (without_fit a.id rows h)
 
   used_fit : (again : Bool) (a : Rule) → IsGood a → (vs : List Text) (rows : List Row) → use_fault again a vs rows ≡ [] → AllFit rows → AllFit (used a vs rows)
   used_fit again a g vs rows e h =
       subst (λ (x : ArgAction). AllFit (used_as x a.id (reading_by a) (values_or_missing a vs) rows)) (sym g.sets)
-      (used_as_fit again a g (values_or_missing a vs) rows
+      (used_as_fit again a g (values_or_missing a vs) rows (used_value a g vs (both_empty _ _ e).0)
       (subst (λ (x : ArgAction). action_fault x again a (values_or_missing a vs) rows ≡ []) g.sets (both_empty _ _ e).1) h)
 
   -- ---- one word
@@ -300,7 +326,8 @@ module _ (id : Text) (q : ValueParser) where
   default_rows_fit : (a : Rule) → IsGood a → (vs : List Text) (rows : List Row) → values_kinds a.ignore_case (parser_of_value a.parser) vs ≡ [] → AllFit rows →
       AllFit (default_rows a.id (reading_by a) vs rows)
   default_rows_fit a g [] rows e k = k
-  default_rows_fit a g (v ∷ vs) rows e k = with_values_fit a.id (reading_by a) DefaultValue (v ∷ vs) rows (good_values a g (v ∷ vs) e) (good_reading a g) k
+  default_rows_fit a g (v ∷ vs) rows e k =
+      with_values_fit a.id (reading_by a) DefaultValue (v ∷ vs) rows (good_values a g (v ∷ vs) (λ _. tt) e) (good_reading a g) k
 
   with_default_fit : (rows : List Row) (a : Rule) → IsGood a → default_fault rows a ≡ [] → AllFit rows → AllFit (with_default rows a)
   with_default_fit rows a g e k = go (has_row a.id rows) e
@@ -335,3 +362,36 @@ module _ (id : Text) (q : ValueParser) where
       let after_defaults = both_empty (defaults_fault (settled s.rules end).rows s.rules) _ after_settling.1 in
       defaults_fit (settled s.rules end).rows s.rules good after_defaults.0
       (settled_fit s.rules good s.args_override_self end after_settling.0 (walk_fit s good names (walk_from h) words after_walk.0 k))
+
+  -- ---- an argument that is given
+
+  -- the value that is found passed
+  pub record Passed (found : Option Text) : Type 0 where
+    pub value : Text
+    pub is : found ≡ Some value
+    pub passes : accepts false q value ≡ true
+
+  first_passed : (vs : List Text) → ArePassed vs → Passed (slice_get vs 0)
+  first_passed [] h = absurd h.0
+  first_passed (v ∷ vs) h = record { value = v; is = refl; passes = h.1.0 }
+
+  pub given_passed : (rows : List Row) → AllFit rows → is_given id rows ≡ true → Passed (first_of id rows)
+  given_passed [] fit e = cc
+  given_passed (r ∷ rows) fit e = go (bytes_eq r.id id) refl e (given_passed rows fit.1)
+    where
+      go : (b : Bool) → bytes_eq r.id id ≡ b →
+          option_map_or (λ (x : Row). explicit_source x.source) (cond b (Some r) (find (λ (x : Row). bytes_eq x.id id) rows)) false ≡ true →
+          (is_given id rows ≡ true → Passed (first_of id rows)) →
+          Passed (option_and_then (λ (x : Row). slice_get x.values 0) (cond b (Some r) (find (λ (x : Row). bytes_eq x.id id) rows)))
+      go true is given later = first_passed r.values (fit.0.values is)
+      go false is given later = later given
+
+-- where a level refuses nothing, nothing that is required is missing
+pub level_checked : (s : Shape) (names : Names) (h : Held) (words : List Text) (has_subcommand : Bool) (below : Kinds) →
+    level_fault s names h words has_subcommand below ≡ [] → check_fault s (finished s.rules (walk s.rules names h words).held) has_subcommand ≡ []
+level_checked s names h words has_subcommand below e =
+    let end = (walk s.rules names h words).held in
+    let after_walk = both_empty (walk_fault s names (walk_from h) words) _ e in
+    let after_below = both_empty below _ after_walk.1 in
+    let after_settling = both_empty (settle_fault s.rules s.args_override_self end) _ after_below.1 in
+    (both_empty (defaults_fault (settled s.rules end).rows s.rules) _ after_settling.1).1

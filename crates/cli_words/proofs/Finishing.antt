@@ -2,6 +2,7 @@
 use Rattle.std.proofs.Common.{◌≡◌, ℕ, ◌∙◌, ap, sym, true, false, refl, List, [], ◌∷◌, ◌++◌, codes, map, Bool, ◌||◌, cond, if◌then◌else◌, Option, Some, None}
 use Rattle.std.proofs.Common.{IsSome, decimal, arith, ◌⊎◌, inl, inr}
 use Rattle.std.specs.Borrow.{Bor}
+use Rattle.std.specs.Option.{option_and_then}
 use Rattle.std.specs.Prelude.{find, fold}
 use Rattle.std.specs.Str.{bytes_eq}
 use Rattle.clap.specs.Walk.{Text, Row, Rule, has_row, with_default, first_of}
@@ -10,6 +11,8 @@ use Rattle.clap.specs.Kinds.{Kinds, or_else}
 use Rattle.clap.specs.declared.builder.value_parser.Reading.TheVariants.{WithoutMinus, AsWritten}
 use Rattle.clap.specs.declared.parser.matches.ValueSource.TheVariants.{DefaultValue}
 use Rattle.clap.proofs.OnLiterals.{clap_on_literals}
+use Rattle.cli_words.specs.declared.limits.TheConstants.{DEFAULT_NODES, DEFAULT_NODES_TEXT, DEFAULT_SEED, DEFAULT_SEED_TEXT, DEFAULT_ROOM_TEXT}
+use Rattle.cli_words.specs.declared.limits.TheConstants.{DEFAULT_SIZE_TEXT}
 use Rattle.cli_words.specs.Command.{number_of, mode_named, mode_of}
 use Rattle.cli_words.specs.Plain.{Setting, Nodes, Seed, Room, Size, setting_name, InRange, Piece, Names, Apart, Joined, mode_said, number_said, mode_by}
 use Rattle.cli_words.proofs.Rows.{value_row, with_values-absent, find-more, none_found, has_row-more}
@@ -78,10 +81,10 @@ abbrev pub default_row : Setting → Text → Row
 default_row s v = value_row (setting_name s) (reading_at (Some s)) DefaultValue v
 
 abbrev pub default_text : Setting → Text
-default_text Nodes = codes "12"
-default_text Seed = codes "7"
-default_text Room = codes "16"
-default_text Size = codes "10000"
+default_text Nodes = DEFAULT_NODES_TEXT.now
+default_text Seed = DEFAULT_SEED_TEXT.now
+default_text Room = DEFAULT_ROOM_TEXT.now
+default_text Size = DEFAULT_SIZE_TEXT.now
 
 -- a default for what is there changes nothing
 kept : (names : Bor (List (Bor Text))) (s : Setting) (rows : List Row) → has_row (setting_name s) rows ≡ true →
@@ -96,10 +99,10 @@ kept names Size rows h = rw h refl
 added : (names : Bor (List (Bor Text))) (s : Setting) (rows : List Row) → has_row (setting_name s) rows ≡ false →
     with_default rows (rule_at names (Some s)) ≡ rows ++ default_row s (default_text s) ∷ []
 unfolding clap_on_literals
-added names Nodes rows h = rw h (with_values-absent (codes "nodes") WithoutMinus DefaultValue (codes "12") rows h)
-added names Seed rows h = rw h (with_values-absent (codes "seed") AsWritten DefaultValue (codes "7") rows h)
-added names Room rows h = rw h (with_values-absent (codes "room") WithoutMinus DefaultValue (codes "16") rows h)
-added names Size rows h = rw h (with_values-absent (codes "size") WithoutMinus DefaultValue (codes "10000") rows h)
+added names Nodes rows h = rw h (with_values-absent (codes "nodes") WithoutMinus DefaultValue DEFAULT_NODES_TEXT.now rows h)
+added names Seed rows h = rw h (with_values-absent (codes "seed") AsWritten DefaultValue DEFAULT_SEED_TEXT.now rows h)
+added names Room rows h = rw h (with_values-absent (codes "room") WithoutMinus DefaultValue DEFAULT_ROOM_TEXT.now rows h)
+added names Size rows h = rw h (with_values-absent (codes "size") WithoutMinus DefaultValue DEFAULT_SIZE_TEXT.now rows h)
 
 -- the mode has no default
 mode_kept : (names : Bor (List (Bor Text))) (rows : List Row) → with_default rows (rule_at names None) ≡ rows
@@ -229,16 +232,17 @@ seed_said otherwise (Joined Size n ∷ pieces) each = seed_said otherwise pieces
 -- ---- the mode and the numbers
 
 nodes_are : (names : Bor (List (Bor Text))) (pieces : List Piece) → EachPiece pieces →
-    number_of (codes "nodes") 4294967295 12 (whole names (map row_of pieces)) ≡ number_said (codes "nodes") 12 pieces
-nodes_are names pieces each = by (nodes_said 12 pieces each)
+    number_of (codes "nodes") 4294967295 DEFAULT_NODES (whole names (map row_of pieces)) ≡ number_said (codes "nodes") DEFAULT_NODES pieces
+nodes_are names pieces each = by (nodes_said DEFAULT_NODES pieces each)
   where
-    by : IsSaid Nodes 12 pieces → number_of (codes "nodes") 4294967295 12 (whole names (map row_of pieces)) ≡ number_said (codes "nodes") 12 pieces
+    by : IsSaid Nodes DEFAULT_NODES pieces →
+        number_of (codes "nodes") 4294967295 DEFAULT_NODES (whole names (map row_of pieces)) ≡ number_said (codes "nodes") DEFAULT_NODES pieces
     by (inl h) =
         let low = h.1.0 in let high = h.1.1 in
         let found = nodes_in_whole names (map row_of pieces)
-        ∙ look_own names Nodes (map row_of pieces) (row_at (Some Nodes) (decimal (number_said (codes "nodes") 12 pieces))) h.0 in
-        let as_read = decimal_as_read (number_said (codes "nodes") 12 pieces) (omega arith) in
-        rw (found, as_read) (decimal_number (number_said (codes "nodes") 12 pieces) 4294967295 12 (omega arith) (omega arith))
+        ∙ look_own names Nodes (map row_of pieces) (row_at (Some Nodes) (decimal (number_said (codes "nodes") DEFAULT_NODES pieces))) h.0 in
+        let as_read = decimal_as_read (number_said (codes "nodes") DEFAULT_NODES pieces) (omega arith) in
+        rw (found, as_read) (decimal_number (number_said (codes "nodes") DEFAULT_NODES pieces) 4294967295 DEFAULT_NODES (omega arith) (omega arith))
     by (inr h) =
         let found = nodes_in_whole names (map row_of pieces) ∙ look_default names Nodes (map row_of pieces) h.0 in
         rw found (sym h.1)
@@ -256,16 +260,17 @@ seed_in_nodes names rows h = by (has_row (codes "nodes") rows) refl
         rw h refl
 
 seed_is : (names : Bor (List (Bor Text))) (pieces : List Piece) → EachPiece pieces →
-    number_of (codes "seed") 18446744073709551615 7 (whole names (map row_of pieces)) ≡ number_said (codes "seed") 7 pieces
-seed_is names pieces each = by (seed_said 7 pieces each)
+    number_of (codes "seed") 18446744073709551615 DEFAULT_SEED (whole names (map row_of pieces)) ≡ number_said (codes "seed") DEFAULT_SEED pieces
+seed_is names pieces each = by (seed_said DEFAULT_SEED pieces each)
   where
-    by : IsSaid Seed 7 pieces → number_of (codes "seed") 18446744073709551615 7 (whole names (map row_of pieces)) ≡ number_said (codes "seed") 7 pieces
+    by : IsSaid Seed DEFAULT_SEED pieces →
+        number_of (codes "seed") 18446744073709551615 DEFAULT_SEED (whole names (map row_of pieces)) ≡ number_said (codes "seed") DEFAULT_SEED pieces
     by (inl h) =
         let fits = h.1 in
         let found = seed_in_whole names (map row_of pieces)
-        ∙ look_own names Seed (with_nodes names (map row_of pieces)) (row_at (Some Seed) (decimal (number_said (codes "seed") 7 pieces)))
+        ∙ look_own names Seed (with_nodes names (map row_of pieces)) (row_at (Some Seed) (decimal (number_said (codes "seed") DEFAULT_SEED pieces)))
         (look_other names Nodes (codes "seed") (map row_of pieces) refl ∙ h.0) in
-        rw found (decimal_number (number_said (codes "seed") 7 pieces) 18446744073709551615 7 (omega arith) fits)
+        rw found (decimal_number (number_said (codes "seed") DEFAULT_SEED pieces) 18446744073709551615 DEFAULT_SEED (omega arith) fits)
     by (inr h) =
         let found = seed_in_whole names (map row_of pieces)
         ∙ look_default names Seed (with_nodes names (map row_of pieces)) (seed_in_nodes names (map row_of pieces) h.0) in
@@ -284,11 +289,12 @@ mode_is names pieces each some =
     let mode = some_mode pieces some in
     let found = mode_in_whole names (map row_of pieces) ∙ mode_found pieces mode.0 mode.1 in
     let said = mode.1 in
-    ap (λ (n : ℕ). mode_named (first_of (codes "mode") (whole names (map row_of pieces))) n
-    (number_of (codes "seed") 18446744073709551615 7 (whole names (map row_of pieces)))) (nodes_are names pieces each) ∙
-    ap (λ (n : ℕ). mode_named (first_of (codes "mode") (whole names (map row_of pieces))) (number_said (codes "nodes") 12 pieces) n)
+    ap (λ (n : ℕ). option_and_then (mode_named n (number_of (codes "seed") 18446744073709551615 DEFAULT_SEED (whole names (map row_of pieces))))
+    (first_of (codes "mode") (whole names (map row_of pieces)))) (nodes_are names pieces each) ∙
+    ap (λ (n : ℕ). option_and_then (mode_named (number_said (codes "nodes") DEFAULT_NODES pieces) n)
+    (first_of (codes "mode") (whole names (map row_of pieces))))
     (seed_is names pieces each) ∙
-    ap (λ (o : Option Text). mode_named o (number_said (codes "nodes") 12 pieces) (number_said (codes "seed") 7 pieces))
+    ap (option_and_then (mode_named (number_said (codes "nodes") DEFAULT_NODES pieces) (number_said (codes "seed") DEFAULT_SEED pieces)))
     (named (whole names (map row_of pieces)) mode.0 found ∙ sym said)
   where
     named : (rows : List Row) (m : Text) → look (codes "mode") rows ≡ Some (row_at None m) → first_of (codes "mode") rows ≡ Some m

@@ -1,3 +1,4 @@
+pub mod Defaults
 pub mod Simple
 pub mod Numbers
 pub mod Rows
@@ -8,4 +9,5 @@ pub mod Finishing
 pub mod PlainWords
 pub mod Answered
 pub mod Accepted
+pub mod ModeGiven
 pub mod NodeRange

@@ -18,6 +18,7 @@ use Rattle.clap.specs.declared.builder.value_parser.ValueParser.{ValueParser}
 use Rattle.clap.specs.declared.builder.value_parser.ValueParser.TheVariants as vp
 use Rattle.clap.specs.declared.parser.matches.ValueSource.TheVariants.{CommandLine}
 use Rattle.clap.proofs.OnLiterals.{clap_on_literals}
+use Rattle.cli_words.specs.declared.limits.TheConstants.{FEWEST_MADE_NODES, LEAST_ROOM, MOST_MADE_NODES, MOST_ROOM, MOST_SIZE}
 use Rattle.cli_words.specs.Command.{AreModes, command_of}
 use Rattle.cli_words.specs.Plain.{Setting, Nodes, Seed, Room, Size, setting_name}
 use Rattle.cli_words.proofs.Rows.{value_row, used-absent}
@@ -39,10 +40,10 @@ slot_name (Some s) = setting_name s
 
 abbrev pub parser_at : Bor (List (Bor Text)) → Slot → ValueParser
 parser_at names None = vp.Names names
-parser_at names (Some Nodes) = vp.Signed (pos 2) (pos 256)
+parser_at names (Some Nodes) = vp.Signed (pos FEWEST_MADE_NODES) (pos MOST_MADE_NODES)
 parser_at names (Some Seed) = vp.Unsigned 0 18446744073709551615
-parser_at names (Some Room) = vp.Signed (pos 1) (pos 4096)
-parser_at names (Some Size) = vp.Signed (pos 0) (pos 835584)
+parser_at names (Some Room) = vp.Signed (pos LEAST_ROOM) (pos MOST_ROOM)
+parser_at names (Some Size) = vp.Signed (pos 0) (pos MOST_SIZE)
 
 abbrev pub reading_at : Slot → Reading
 reading_at None = AsWritten

@@ -9,6 +9,7 @@ use Rattle.clap.specs.Walk.{Text, Row, Walk, idle, option, walked, has_row}
 use Rattle.clap.specs.Simple.{Shape}
 use Rattle.clap.specs.Faults.{turn_fault, walk_fault}
 use Rattle.clap.specs.ValueTests.{accepts}
+use Rattle.cli_words.specs.declared.limits.TheConstants.{FEWEST_MADE_NODES, LEAST_ROOM, MOST_MADE_NODES, MOST_ROOM, MOST_SIZE}
 use Rattle.cli_words.specs.Command.{AreModes}
 use Rattle.cli_words.specs.Plain.{Setting, Nodes, Seed, Room, Size, setting_name, InRange, Piece, Names, Apart, Joined, words_of, IsPiece, subject_of}
 use Rattle.cli_words.proofs.Rows.{neither, has_row-more}
@@ -42,10 +43,10 @@ Fresh rows (piece ∷ pieces) = (has_row (subject_of piece) rows ≡ false) × F
 -- what an option takes
 pub number_accepted : (names : Bor (List (Bor Text))) (s : Setting) (n : ℕ) → InRange s n →
     (n < 2 ^ 64) × (accepts false (parser_at names (Some s)) (decimal n) ≡ true)
-number_accepted names Nodes n h = let low = h.0 in let high = h.1 in (omega arith, decimal_signed n 2 256 low high (omega arith))
+number_accepted names Nodes n h = let low = h.0 in let high = h.1 in (omega arith, decimal_signed n FEWEST_MADE_NODES MOST_MADE_NODES low high (omega arith))
 number_accepted names Seed n h = (h, decimal_unsigned n h)
-number_accepted names Room n h = let low = h.0 in let high = h.1 in (omega arith, decimal_signed n 1 4096 low high (omega arith))
-number_accepted names Size n h = (omega arith, decimal_signed n 0 835584 (omega arith) h (omega arith))
+number_accepted names Room n h = let low = h.0 in let high = h.1 in (omega arith, decimal_signed n LEAST_ROOM MOST_ROOM low high (omega arith))
+number_accepted names Size n h = (omega arith, decimal_signed n 0 MOST_SIZE (omega arith) h (omega arith))
 
 -- words that a walk goes over without a fault, to rows that are settled
 pub record GoesOver (names : Bor (List (Bor Text))) (from : Walk) (words : List Text) (rows : List Row) : Type 0 where

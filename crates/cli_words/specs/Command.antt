@@ -1,6 +1,6 @@
 -- The command, as `clap` has it, and what a reading of it answers.
 use Rattle.std.specs.Prelude.{◌≡◌, ◌≢◌, ◌≤◌, ℕ, List, [], ◌∷◌, map, codes, Option, Some, None, Result, Err, IfOk, IfErr, true, pos, if◌then◌else◌}
-use Rattle.std.specs.Option.{option_map_or}
+use Rattle.std.specs.Option.{option_and_then, option_map_or}
 use Rattle.std.specs.Str.{bytes_eq}
 use Rattle.std.specs.Str.Parse.{digits_value, without_leading_plus}
 use Rattle.std.specs.Borrow.{Bor}
@@ -15,6 +15,9 @@ use Rattle.clap.specs.declared.builder.value_parser.ValueParser.{ValueParser}
 use Rattle.clap.specs.declared.builder.value_parser.ValueParser.TheVariants as vp
 use Rattle.clap.specs.declared.error.Error.{Error}
 use Rattle.clap.specs.declared.error.kind.ErrorKind.TheVariants as kind
+use Rattle.cli_words.specs.declared.limits.TheConstants.{DEFAULT_NODES, DEFAULT_NODES_TEXT, DEFAULT_SEED, DEFAULT_SEED_TEXT, DEFAULT_ROOM_TEXT}
+use Rattle.cli_words.specs.declared.limits.TheConstants.{DEFAULT_SIZE_TEXT, FEWEST_MADE_NODES, LEAST_ROOM}
+use Rattle.cli_words.specs.declared.limits.TheConstants.{MOST_MADE_NODES, MOST_ROOM, MOST_SIZE}
 use Rattle.cli_words.specs.declared.mode.Mode.{Mode}
 use Rattle.cli_words.specs.declared.mode.Mode.TheVariants.{Play, Big}
 use Rattle.cli_words.specs.declared.mode.WordFault.{WordFault}
@@ -33,16 +36,16 @@ option_rule name parser otherwise =
     record (new_rule name) { long = Some name; action = Some Set; parser = Some parser; defaults = otherwise ∷ [] }
 
 abbrev pub nodes_rule : Rule
-nodes_rule = option_rule (codes "nodes") (vp.Signed (pos 2) (pos 256)) (codes "12")
+nodes_rule = option_rule (codes "nodes") (vp.Signed (pos FEWEST_MADE_NODES) (pos MOST_MADE_NODES)) DEFAULT_NODES_TEXT.now
 
 abbrev pub seed_rule : Rule
-seed_rule = option_rule (codes "seed") (vp.Unsigned 0 18446744073709551615) (codes "7")
+seed_rule = option_rule (codes "seed") (vp.Unsigned 0 18446744073709551615) DEFAULT_SEED_TEXT.now
 
 abbrev pub room_rule : Rule
-room_rule = option_rule (codes "room") (vp.Signed (pos 1) (pos 4096)) (codes "16")
+room_rule = option_rule (codes "room") (vp.Signed (pos LEAST_ROOM) (pos MOST_ROOM)) DEFAULT_ROOM_TEXT.now
 
 abbrev pub size_rule : Rule
-size_rule = option_rule (codes "size") (vp.Signed (pos 0) (pos 835584)) (codes "10000")
+size_rule = option_rule (codes "size") (vp.Signed (pos 0) (pos MOST_SIZE)) DEFAULT_SIZE_TEXT.now
 
 abbrev pub without_help : App → App
 without_help a = record a { top = record a.top { disable_help_flag = true; disable_version_flag = true } }
@@ -64,24 +67,25 @@ number_in most otherwise t = if is_unsigned_in 0 most t then digits_value 10 (wi
 abbrev pub number_of : Text → ℕ → ℕ → List Row → ℕ
 number_of id most otherwise rows = option_map_or (number_in most otherwise) (one_of id rows) otherwise
 
--- `big` with these numbers, or `play`
-abbrev pub mode_named : Option Text → ℕ → ℕ → Mode
-mode_named None nodes seed = Play
-mode_named (Some t) nodes seed = if bytes_eq t (codes "big") then Big nodes seed else Play
+-- the mode of this name, with these numbers if it has any
+abbrev pub mode_named : ℕ → ℕ → Text → Option Mode
+mode_named nodes seed name =
+    if bytes_eq name (codes "play") then Some Play else (if bytes_eq name (codes "big") then Some (Big nodes seed) else None)
 
 -- the mode of what a reading found
-abbrev pub mode_of : List Row → Mode
+abbrev pub mode_of : List Row → Option Mode
 mode_of rows =
-    mode_named (first_of (codes "mode") rows) (number_of (codes "nodes") 4294967295 12 rows) (number_of (codes "seed") 18446744073709551615 7 rows)
+    option_and_then (mode_named (number_of (codes "nodes") 4294967295 DEFAULT_NODES rows) (number_of (codes "seed") 18446744073709551615 DEFAULT_SEED rows))
+    (first_of (codes "mode") rows)
 
--- a made scenario has 2 to 256 nodes
+-- the nodes of a made scenario
 abbrev pub HasNodesInRange : Mode → Type 0
 HasNodesInRange Play = Unit {0}
-HasNodesInRange (Big nodes seed) = (2 ≤ nodes) × (nodes ≤ 256)
+HasNodesInRange (Big nodes seed) = (FEWEST_MADE_NODES ≤ nodes) × (nodes ≤ MOST_MADE_NODES)
 
 -- What a reading answers: Usage exactly where the command's reading is refused for another cause than memory.
 pub record Reads (names : Bor (List (Bor Text))) (words : List Text) (result : Result Mode WordFault) : Type 0 where
-  pub ok : IfOk result (λ m. (fault_of (command_of names) words ≡ []) × (m ≡ mode_of (matches_of (command_of names) words)))
+  pub ok : IfOk result (λ m. (fault_of (command_of names) words ≡ []) × (mode_of (matches_of (command_of names) words) ≡ Some m))
   pub usage : result ≡ Err Usage → fault_of (command_of names) words ≢ []
 
 -- What a check of words answers: an error of another cause than memory exactly where the command's reading refuses them.

@@ -2,8 +2,10 @@
 use Rattle.std.specs.Prelude.{◌≡◌, ◌≢◌, ◌⊎◌, ◌≤◌, ◌<◌, ◌^◌, ℕ, List, [], ◌∷◌, ◌++◌, map, codes, decimal, All, AllPairs, IsSome, Option, Some, None}
 use Rattle.std.specs.Prelude.{if◌then◌else◌}
 use Rattle.std.specs.List.{flat_map}
+use Rattle.std.specs.Option.{option_and_then}
 use Rattle.std.specs.Str.{bytes_eq}
 use Rattle.clap.specs.Walk.{Text}
+use Rattle.cli_words.specs.declared.limits.TheConstants.{DEFAULT_NODES, DEFAULT_SEED, FEWEST_MADE_NODES, LEAST_ROOM, MOST_MADE_NODES, MOST_ROOM, MOST_SIZE}
 use Rattle.cli_words.specs.declared.mode.Mode.{Mode}
 use Rattle.cli_words.specs.Command.{mode_named}
 
@@ -21,10 +23,10 @@ setting_name Room = codes "room"
 setting_name Size = codes "size"
 
 abbrev pub InRange : Setting → ℕ → Type 0
-InRange Nodes n = (2 ≤ n) × (n ≤ 256)
+InRange Nodes n = (FEWEST_MADE_NODES ≤ n) × (n ≤ MOST_MADE_NODES)
 InRange Seed n = n < 2 ^ 64
-InRange Room n = (1 ≤ n) × (n ≤ 4096)
-InRange Size n = n ≤ 835584
+InRange Room n = (LEAST_ROOM ≤ n) × (n ≤ MOST_ROOM)
+InRange Size n = n ≤ MOST_SIZE
 
 -- the mode, `--nodes N` or `--nodes=N`
 pub data Piece : Type 0 where
@@ -64,9 +66,11 @@ number_said name otherwise (Apart setting number ∷ pieces) =
 number_said name otherwise (Joined setting number ∷ pieces) =
     if bytes_eq (setting_name setting) name then number else number_said name otherwise pieces
 
--- the mode that is named, with its numbers or 12 and 7
-abbrev pub mode_by : List Piece → Mode
-mode_by pieces = mode_named (mode_said pieces) (number_said (codes "nodes") 12 pieces) (number_said (codes "seed") 7 pieces)
+-- the mode that is named, with its numbers or those that stand for them
+abbrev pub mode_by : List Piece → Option Mode
+mode_by pieces =
+    option_and_then (mode_named (number_said (codes "nodes") DEFAULT_NODES pieces) (number_said (codes "seed") DEFAULT_SEED pieces))
+    (mode_said pieces)
 
 pub record ArePlain (pieces : List Piece) (words : List Text) : Type 0 where
   pub first : Text

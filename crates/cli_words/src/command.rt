@@ -5,12 +5,14 @@ ghost use Rattle.clap.specs.Words.{app_of, rule_of};
 ghost use Rattle.clap.specs.Simple.{new_app};
 ghost use Rattle.cli_words.specs.Command.{IsCommand, AreModes, without_help, mode_rule, nodes_rule, seed_rule, room_rule, size_rule};
 
+use crate::limits::{
+    DEFAULT_NODES_TEXT, DEFAULT_ROOM_TEXT, DEFAULT_SEED_TEXT, DEFAULT_SIZE_TEXT, FEWEST_MADE_NODES,
+    LEAST_ROOM, MOST_MADE_NODES, MOST_ROOM, MOST_SIZE,
+};
 use crate::mode::WordFault;
+use crate::modes::MODES;
 use clap::{Arg, ArgAction, Command, value_parser};
 use std::alloc::Global;
-
-/// The modes that are built.
-static MODES: [&str; 2] = ["play", "big"];
 
 fn mode_arg<'a>(alloc: Global) -> Arg<'a>
     ensures rule { (names : _) × AreModes names × (rule_of result ≡ mode_rule names) }
@@ -30,8 +32,10 @@ fn nodes_arg<'a>(alloc: Global) -> Arg<'a>
     Arg::new(alloc, "nodes")
         .long("nodes")
         .action(ArgAction::Set)
-        .value_parser(value_parser!(u32).range(2..=256))
-        .default_value("12")
+        .value_parser(value_parser!(u32).range(
+            i64::from(FEWEST_MADE_NODES)..=i64::from(MOST_MADE_NODES),
+        ))
+        .default_value(DEFAULT_NODES_TEXT)
 }
 
 /// The seed of a made scenario.
@@ -43,7 +47,7 @@ fn seed_arg<'a>(alloc: Global) -> Arg<'a>
         .long("seed")
         .action(ArgAction::Set)
         .value_parser(value_parser!(u64))
-        .default_value("7")
+        .default_value(DEFAULT_SEED_TEXT)
 }
 
 /// How many files an access point keeps. It has no effect in the modes that are built.
@@ -54,8 +58,8 @@ fn room_arg<'a>(alloc: Global) -> Arg<'a>
     Arg::new(alloc, "room")
         .long("room")
         .action(ArgAction::Set)
-        .value_parser(value_parser!(u32).range(1..=4096))
-        .default_value("16")
+        .value_parser(value_parser!(u32).range(i64::from(LEAST_ROOM)..=i64::from(MOST_ROOM)))
+        .default_value(DEFAULT_ROOM_TEXT)
 }
 
 /// How many bytes a large file has. It has no effect in the modes that are built.
@@ -66,8 +70,8 @@ fn size_arg<'a>(alloc: Global) -> Arg<'a>
     Arg::new(alloc, "size")
         .long("size")
         .action(ArgAction::Set)
-        .value_parser(value_parser!(u32).range(0..=835584))
-        .default_value("10000")
+        .value_parser(value_parser!(u32).range(0..=i64::from(MOST_SIZE)))
+        .default_value(DEFAULT_SIZE_TEXT)
 }
 
 /// No argument yet, and neither help nor version.

@@ -1,33 +1,35 @@
 //! Reading the words of the command line.
 
-ghost use Rattle.std.specs.Prelude.{◌≡◌, ◌≢◌, ◌⊎◌, Ok, Err, IfOk, IsErrAnd, List, codes, option_map, map};
+ghost use Rattle.std.specs.Prelude.{◌≡◌, ◌≢◌, ◌⊎◌, Err, Some, IfOk, IsOkAnd, IsErrAnd, List, codes, option_map, map};
 ghost use Rattle.std.specs.Rc.{rc_str_bytes};
 ghost use Rattle.clap.specs.Words.{rows_of, found_of, first_of, kind_of};
-ghost use Rattle.cli_words.specs.Command.{Reads, Judges, AreModes, HasNodesInRange, mode_of, mode_named, number_of};
+ghost use Rattle.cli_words.specs.Command.{Reads, Judges, AreModes, HasNodesInRange, mode_of, number_of};
 ghost use Rattle.cli_words.specs.Plain.{Piece, ArePlain, mode_by};
 
 use crate::command::command;
+use crate::limits::{DEFAULT_NODES, DEFAULT_SEED};
 use crate::mode::{Mode, WordFault};
+use crate::modes::mode_named;
 use clap::error::ErrorKind;
 use clap::{ArgMatches, Error};
 use std::alloc::{AllocError, Global};
 use std::rc::RcStr;
 
 fn nodes_in(matches: &ArgMatches<'_>) -> u32
-    ensures { result ≡ number_of (codes "nodes") 4294967295 12 (rows_of (found_of matches.now)) }
+    ensures { result ≡ number_of (codes "nodes") 4294967295 DEFAULT_NODES (rows_of (found_of matches.now)) }
 {
     match matches.get_one::<u32>("nodes") {
         Some(nodes) => nodes,
-        None => 12,
+        None => DEFAULT_NODES,
     }
 }
 
 fn seed_in(matches: &ArgMatches<'_>) -> u64
-    ensures { result ≡ number_of (codes "seed") 18446744073709551615 7 (rows_of (found_of matches.now)) }
+    ensures { result ≡ number_of (codes "seed") 18446744073709551615 DEFAULT_SEED (rows_of (found_of matches.now)) }
 {
     match matches.get_one::<u64>("seed") {
         Some(seed) => seed,
-        None => 7,
+        None => DEFAULT_SEED,
     }
 }
 
@@ -37,23 +39,10 @@ fn name_in<'a>(matches: &ArgMatches<'a>) -> Option<&'a str>
     matches.get_str("mode")
 }
 
-fn mode_named(name: Option<&str>, nodes: u32, seed: u64) -> Mode
-    ensures { result ≡ mode_named (option_map (λ s. s.now) name.entry) nodes seed }
-{
-    let Some(name) = name else {
-        return Mode::Play;
-    };
-    if name == "big" {
-        Mode::Big { nodes, seed }
-    } else {
-        Mode::Play
-    }
-}
-
-fn mode_in(matches: &ArgMatches<'_>) -> Mode
+fn mode_in(matches: &ArgMatches<'_>) -> Option<Mode>
     ensures { result ≡ mode_of (rows_of (found_of matches.now)) }
 {
-    mode_named(name_in(matches), nodes_in(matches), seed_in(matches))
+    mode_named(name_in(matches)?, nodes_in(matches), seed_in(matches))
 }
 
 fn fault_in(error: &Error) -> WordFault
@@ -71,7 +60,7 @@ fn fault_in(error: &Error) -> WordFault
 /// `Usage`. The nodes of a `Big` that is answered are 2 to 256.
 pub fn read_words(alloc: Global, words: &[RcStr]) -> Result<Mode, WordFault>
     ensures reads { (result ≡ Err WordFault.OutOfMemory) ⊎ ((names : _) × AreModes names × Reads names (map rc_str_bytes words.now) result) }
-    ensures plain { (pieces : List Piece) → ArePlain pieces (map rc_str_bytes words.now) → (result ≡ Err WordFault.OutOfMemory) ⊎ (result ≡ Ok (mode_by pieces)) }
+    ensures plain { (pieces : List Piece) → ArePlain pieces (map rc_str_bytes words.now) → (result ≡ Err WordFault.OutOfMemory) ⊎ IsOkAnd result (λ mode. mode_by pieces ≡ Some mode) }
     ensures range { IfOk result HasNodesInRange }
 {
     read(alloc, words)
@@ -83,7 +72,7 @@ fn read(alloc: Global, words: &[RcStr]) -> Result<Mode, WordFault>
 {
     let command = command(alloc)?;
     match command.try_get_matches_from(words) {
-        Ok(matches) => Ok(mode_in(&matches)),
+        Ok(matches) => mode_in(&matches).ok_or(WordFault::Usage),
         Err(error) => Err(fault_in(&error)),
     }
 }

@@ -1,6 +1,6 @@
 -- What the words of the command line ask for: a mode, or nothing where the command refuses them. The command is that of the
 -- crate cli_words, and is known but for where the texts of its modes are kept.
-use Rattle.std.specs.Prelude.{◌≡◌, ◌≢◌, List, []}
+use Rattle.std.specs.Prelude.{◌≡◌, ◌≢◌, List, [], Some}
 use Rattle.std.specs.Borrow.{Bor}
 use Rattle.clap.specs.Walk.{Text}
 use Rattle.clap.specs.Faults.{fault_of}
@@ -14,8 +14,8 @@ pub record AskFor (words : List Text) (mode : Mode) : Type 0 where
   pub names : Bor (List (Bor Text))
   pub are_modes : AreModes names
   pub taken : fault_of (command_of names) words ≡ []
-  pub found : mode ≡ mode_of (matches_of (command_of names) words)
-  pub plain : (pieces : List Piece) → ArePlain pieces words → mode ≡ mode_by pieces
+  pub found : mode_of (matches_of (command_of names) words) ≡ Some mode
+  pub plain : (pieces : List Piece) → ArePlain pieces words → mode_by pieces ≡ Some mode
 
 -- the command refuses the words, for another cause than memory; so they are not plain
 pub record AreUsage (words : List Text) : Type 0 where
@@ -28,4 +28,4 @@ pub record AreUsage (words : List Text) : Type 0 where
 pub record NamePlainly (words : List Text) (mode : Mode) : Type 0 where
   pub pieces : List Piece
   pub plain : ArePlain pieces words
-  pub named : mode_by pieces ≡ mode
+  pub named : mode_by pieces ≡ Some mode

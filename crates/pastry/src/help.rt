@@ -1,7 +1,10 @@
 //! What is said of the use of the program.
 
 use crate::message::Grouped;
-use scenario_reader::MOST_NODES;
+use cli_words::{
+    DEFAULT_NODES, DEFAULT_ROOM, DEFAULT_SEED, DEFAULT_SIZE, FEWEST_MADE_NODES, LEAST_ROOM,
+    MOST_MADE_NODES, MOST_ROOM, MOST_SIZE,
+};
 use std::fmt;
 use std::rc::RcStr;
 
@@ -37,10 +40,10 @@ impl fmt::Display for Help {
         write!(
             f,
             "{MODES}
-  --nodes N   how many nodes big makes: 2 to {MOST_NODES}, 12 if not given
-  --seed N    the number from which big makes its scenario: 0 to {most}, 7 if not given
-  --room N    1 to 4096, 16 if not given; it has no effect in these modes
-  --size N    0 to 835584, 10000 if not given; it has no effect in these modes
+  --nodes N   how many nodes big makes: {FEWEST_MADE_NODES} to {MOST_MADE_NODES}, {DEFAULT_NODES} if not given
+  --seed N    the number from which big makes its scenario: 0 to {most}, {DEFAULT_SEED} if not given
+  --room N    {LEAST_ROOM} to {MOST_ROOM}, {DEFAULT_ROOM} if not given; it has no effect in these modes
+  --size N    0 to {MOST_SIZE}, {DEFAULT_SIZE} if not given; it has no effect in these modes
 
 {STATUSES}"
         )

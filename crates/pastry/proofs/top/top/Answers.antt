@@ -1,4 +1,4 @@
-use Rattle.std.proofs.Common.{inr}
+use Rattle.std.proofs.Common.{inl, inr}
 use Rattle.cli_words.specs.declared.mode.Mode.TheVariants.{Play, Big}
 use Rattle.pastry.proofs.Words.{AskFor-from_read, AreUsage-from_read, not_both_modes}
 use Rattle.pastry.proofs.Played.{HasRun-from_play, HasRun-from_big}
@@ -108,3 +108,20 @@ returns-in-Ok-Big-clause-complete g c = inr (inr (
 pub returns-in-Err-Usage-clause-usage : goal.returns-in-Err-Usage-clause-usage
 returns-in-Err-Usage-clause-usage g c = λ e.
     AreUsage-from_read _ _ c.in-Err-Usage.field-0-is (record { reads = c.in-Err-Usage.ensures.reads; plain = c.in-Err-Usage.ensures.plain })
+
+pub returns-in-Err-Usage-clause-complete : goal.returns-in-Err-Usage-clause-complete
+returns-in-Err-Usage-clause-complete g c = inr (inl (
+  c.refused.ensures.fault,
+  AreUsage-from_read _ _ c.in-Err-Usage.field-0-is (record { reads = c.in-Err-Usage.ensures.reads; plain = c.in-Err-Usage.ensures.plain }),
+))
+
+-- plain words are never refused
+pub returns-in-Err-Usage-clause-plain : goal.returns-in-Err-Usage-clause-plain
+returns-in-Err-Usage-clause-plain g c = λ mode named.
+    absurd ((AreUsage-from_read _ _ c.in-Err-Usage.field-0-is
+    (record { reads = c.in-Err-Usage.ensures.reads; plain = c.in-Err-Usage.ensures.plain })).odd named.pieces named.plain)
+
+pub returns-in-Err-Usage-clause-steady : goal.returns-in-Err-Usage-clause-steady
+returns-in-Err-Usage-clause-steady g c = λ source sink mode named.
+    absurd ((AreUsage-from_read _ _ c.in-Err-Usage.field-0-is
+    (record { reads = c.in-Err-Usage.ensures.reads; plain = c.in-Err-Usage.ensures.plain })).odd named.pieces named.plain)
