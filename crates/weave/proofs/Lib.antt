@@ -1,0 +1,10 @@
+pub mod Placing
+pub mod Order
+pub mod Sendings
+pub mod Searching
+pub mod Stopping
+pub mod Standing
+pub mod Wanting
+pub mod Strays
+pub mod Unreads
+pub mod Woven

@@ -1,0 +1,10 @@
+use Rattle.std.proofs.Common.{All, map, take}
+use Rattle.weave.specs.ByStamp.{envelopes_at}
+use Rattle.weave.specs.Placed.{Placed, placed}
+use Rattle.weave.specs.Wanted.{HasNoWanted}
+use Rattle.weave.proofs.untaken.first_untaken.Given as goal
+
+-- the entries so far sent nothing that is sought
+abbrev pub invariant-loop-act : goal.invariant-loop-act
+invariant-loop-act l =
+    All (λ (p : Placed). HasNoWanted (envelopes_at l.taken) l.receiver p.act.entry.sent) (map placed (take l.act-index l.acts))

@@ -1,0 +1,35 @@
+-- Cells that are woven, as histories from a setting.
+use Rattle.std.specs.Prelude.{◌≡◌, ◌==◌, true, List, map, All, Contains}
+use Rattle.ring_math.specs.Names.{Id}
+use Rattle.overlay_rules.specs.Record.{Setting, all_differ}
+use Rattle.weave_laws.specs.Cells.{History, IsCellHistory, nodes_of}
+use Rattle.weave_laws.specs.Numbers.{NumbersRise, ShareNoNumber}
+use Rattle.node_cell.specs.Cell.{Cell}
+
+abbrev pub kept_history : Cell → History
+kept_history c = record { node = c.node; entries = c.history }
+
+abbrev pub histories : List Cell → List History
+histories cells = map kept_history cells
+
+abbrev pub nodes : List Cell → List Id
+nodes cells = nodes_of (histories cells)
+
+-- different nodes
+abbrev pub HaveOwnNodes : List Cell → Type 0
+HaveOwnNodes cells = all_differ (nodes cells) ≡ true
+
+-- the cells of one ring: exactly one was made as the founder, which is at this node, and no command number stands in two histories
+pub record AreOneRing (cells : List Cell) (founder : Id) : Type 0 where
+  pub there : Contains (nodes cells) founder
+  pub alone : All (λ (c : Cell). c.is_founder ≡ (c.node == founder)) cells
+  pub numbers : ShareNoNumber (histories cells)
+
+-- the nodes of the cells, and the founder
+abbrev pub setting_of : List Cell → Id → Setting
+setting_of cells founder = record { nodes = nodes cells; founder = founder }
+
+-- what a cell keeps by its type
+pub record IsLawful (c : Cell) : Type 0 where
+  pub history : IsCellHistory c.node c.is_founder c.history
+  pub numbers : NumbersRise c.history

@@ -1,0 +1,83 @@
+//! The entries of all cells, in the woven order.
+
+ghost use Rattle.std.specs.Prelude.{◌≡◌, ◌++◌, IfOk, OnOk, All, map};
+ghost use Rattle.weave_laws.specs.Woven.{IsWovenOrder};
+ghost use Rattle.weave.specs.ByStamp.{AreByStamp, envelopes_at};
+ghost use Rattle.weave.specs.Cells.{HaveOwnNodes, IsLawful, histories};
+ghost use Rattle.weave.specs.Placed.{AreEntriesOf, acts_in, all_placed, placed, placed_in, sent_by};
+
+use node_cell::{CellEntry, NodeCell};
+use ring_math::{Id, OutOfMemory};
+use std::alloc::Global;
+use wire_msg::Envelope;
+
+/// An entry of a cell's history. Its stamp stands beside it, since entries are sorted by it.
+#[derive(Clone, Copy)]
+pub(crate) struct Act<'a> {
+    pub(crate) stamp: u64,
+    pub(crate) node: Id,
+    pub(crate) place: usize,
+    pub(crate) entry: &'a CellEntry,
+}
+
+/// All entries of the cells, in the woven order.
+pub(crate) fn woven_order(alloc: Global, cells: &[NodeCell]) -> Result<Vec<Act<'_>>, OutOfMemory>
+    requires { HaveOwnNodes cells.now }
+    ensures order { IfOk result (λ acts. IsWovenOrder (histories cells.now) (acts_in (map placed acts.items))) }
+    ensures entries { IfOk result (λ acts. AreEntriesOf (histories cells.now) (map placed acts.items)) }
+    ensures lawful { OnOk result (All IsLawful cells.now) }
+{
+    let mut acts = all_acts(alloc, cells)?;
+    acts.sort_unstable_by_key(|act| (act.stamp, act.node.0));
+    Ok(acts)
+}
+
+/// All entries of the cells, one history behind the other.
+fn all_acts(alloc: Global, cells: &[NodeCell]) -> Result<Vec<Act<'_>>, OutOfMemory>
+    ensures acts { IfOk result (λ acts. map placed acts.items ≡ all_placed cells.now) }
+    ensures lawful { OnOk result (All IsLawful cells.now) }
+{
+    let mut acts = Vec::new(alloc);
+    for cell in cells {
+        add_history(&mut acts, cell)?;
+    }
+    Ok(acts)
+}
+
+fn add_history<'a>(acts: &mut Vec<Act<'a>>, cell: &'a NodeCell) -> Result<(), OutOfMemory>
+    ensures acts { OnOk result (map placed acts.new.items ≡ map placed acts.old.items ++ placed_in cell.now) }
+    ensures lawful { IsLawful cell.now }
+{
+    let node = cell.me();
+    let history = cell.history();
+    acts.reserve(history.len())?;
+    for (place, entry) in history.iter().enumerate() {
+        acts.push_reserved(Act {
+            stamp: entry.stamp,
+            node,
+            place,
+            entry,
+        });
+    }
+    Ok(())
+}
+
+/// All that the entries sent, in their order.
+pub(crate) fn sent_by<'a>(alloc: Global, acts: &[Act<'a>]) -> Result<Vec<&'a Envelope>, OutOfMemory>
+    ensures { IfOk result (λ sent. envelopes_at sent.items ≡ sent_by (acts_in (map placed acts.now))) }
+{
+    let mut sent = Vec::new(alloc);
+    for act in acts {
+        add_sent(&mut sent, act.entry)?;
+    }
+    Ok(sent)
+}
+
+fn add_sent<'a>(sent: &mut Vec<&'a Envelope>, entry: &'a CellEntry) -> Result<(), OutOfMemory>
+    ensures { OnOk result (envelopes_at sent.new.items ≡ envelopes_at sent.old.items ++ entry.now.sent) }
+{
+    for envelope in entry.sent.as_slice() {
+        sent.push(envelope)?;
+    }
+    Ok(())
+}

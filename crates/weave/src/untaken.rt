@@ -1,0 +1,114 @@
+//! Messages that are still to be taken.
+
+ghost use Rattle.std.specs.Prelude.{◌≡◌, IfOk, IfSome, IfNone, map, option_to_list};
+ghost use Rattle.wire_msg.specs.Words.{plain_envelope};
+ghost use Rattle.weave.specs.ByStamp.{AreByStamp, envelopes_at};
+ghost use Rattle.weave.specs.Cells.{HaveOwnNodes, histories};
+ghost use Rattle.weave.specs.Placed.{acts_in, placed};
+ghost use Rattle.weave.specs.Unread.{AllRead, IsFirstUnread};
+ghost use Rattle.weave.specs.Wanted.{HasNoWanted, IsFirstWanted, IsFound, HasSame, taken_by, taken_in};
+
+use crate::acts::{Act, woven_order};
+use crate::search::place_of;
+use crate::waiting::Unread;
+use node_cell::{CellInput, NodeCell};
+use ring_math::{Id, OutOfMemory};
+use std::alloc::Global;
+use wire_msg::Envelope;
+
+/// The first message for this node that no history took: first by the woven order of the entries that sent them, then by the
+/// order in which one entry sent them.
+pub fn unread(
+    alloc: Global,
+    cells: &[NodeCell],
+    receiver: Id,
+) -> Result<Option<Unread>, OutOfMemory>
+    requires { HaveOwnNodes cells.now }
+    ensures some { IfOk result (λ found. IfSome found (λ u. IsFirstUnread (histories cells.now) receiver u.node u.place (plain_envelope u.envelope))) }
+    ensures none { IfOk result (λ found. IfNone found (AllRead (histories cells.now) receiver)) }
+{
+    let acts = woven_order(alloc, cells)?;
+    let taken = taken_sorted(alloc, &acts, receiver)?;
+    first_untaken(alloc, &acts, &taken, receiver)
+}
+
+/// The messages for this node that the entries took in, by stamp and then by sender.
+fn taken_sorted<'a>(
+    alloc: Global,
+    acts: &[Act<'a>],
+    receiver: Id,
+) -> Result<Vec<&'a Envelope>, OutOfMemory>
+    ensures sorted { IfOk result (λ taken. AreByStamp (envelopes_at taken.items)) }
+    ensures same { IfOk result (λ taken. HasSame (taken_by receiver (acts_in (map placed acts.now))) (envelopes_at taken.items)) }
+{
+    let mut taken = taken_by(alloc, acts, receiver)?;
+    taken.sort_unstable_by_key(|envelope| (envelope.stamp, envelope.sender.0));
+    Ok(taken)
+}
+
+fn taken_by<'a>(
+    alloc: Global,
+    acts: &[Act<'a>],
+    receiver: Id,
+) -> Result<Vec<&'a Envelope>, OutOfMemory>
+    ensures { IfOk result (λ taken. envelopes_at taken.items ≡ taken_by receiver (acts_in (map placed acts.now))) }
+{
+    let mut taken = Vec::new(alloc);
+    for act in acts {
+        if let Some(envelope) = taken_in(act, receiver) {
+            taken.push(envelope)?;
+        }
+    }
+    Ok(taken)
+}
+
+/// The message that an entry took in, if it is one for this node.
+fn taken_in<'a>(act: &Act<'a>, receiver: Id) -> Option<&'a Envelope>
+    ensures { envelopes_at (option_to_list result) ≡ taken_in receiver (placed act.now).act.entry.input }
+{
+    match &act.entry.input {
+        CellInput::Comes(envelope) if envelope.receiver == receiver => Some(envelope),
+        _ => None,
+    }
+}
+
+/// The first message for this node that is not among those taken.
+fn first_untaken(
+    alloc: Global,
+    acts: &[Act<'_>],
+    taken: &[&Envelope],
+    receiver: Id,
+) -> Result<Option<Unread>, OutOfMemory>
+    requires { AreByStamp (envelopes_at taken.now) }
+    ensures { IfOk result (IsFound (envelopes_at taken.now) receiver (map placed acts.now)) }
+{
+    for act in acts {
+        let sent = act.entry.sent.as_slice();
+        if let Some(envelope) = first_sent(alloc, sent, taken, receiver)? {
+            return Ok(Some(Unread {
+                node: act.node,
+                place: act.place as u64,
+                envelope: envelope.copy(alloc)?,
+            }));
+        }
+    }
+    Ok(None)
+}
+
+fn first_sent<'a>(
+    alloc: Global,
+    sent: &'a [Envelope],
+    taken: &[&Envelope],
+    receiver: Id,
+) -> Result<Option<&'a Envelope>, OutOfMemory>
+    requires { AreByStamp (envelopes_at taken.now) }
+    ensures some { IfOk result (λ found. IfSome found (λ v. IsFirstWanted (envelopes_at taken.now) receiver (map plain_envelope sent.now) (plain_envelope v.now))) }
+    ensures none { IfOk result (λ found. IfNone found (HasNoWanted (envelopes_at taken.now) receiver (map plain_envelope sent.now))) }
+{
+    for envelope in sent {
+        if envelope.receiver == receiver && place_of(alloc, taken, envelope)?.is_none() {
+            return Ok(Some(envelope));
+        }
+    }
+    Ok(None)
+}
