@@ -13,3 +13,5 @@ pub mod Spans
 pub mod Shapes
 pub mod Refusals
 pub mod Decoded
+pub mod NoteFields
+pub mod Noted

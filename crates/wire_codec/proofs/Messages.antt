@@ -17,7 +17,7 @@ use Rattle.wire_codec.proofs.Matching.{Matches}
 
 -- ---- they match the layout
 
-why_matches : (w : Why) → Matches layouts.why (fields_of_why w)
+pub why_matches : (w : Why) → Matches layouts.why (fields_of_why w)
 why_matches (why.Busy joiner) = ((lit≤ tt, lit≤ tt), (refl, tt))
 why_matches (why.Moved left right) = ((lit≤ tt, lit≤ tt), (refl, (refl, tt)))
 why_matches why.NotReady = ((lit≤ tt, lit≤ tt), tt)
@@ -35,7 +35,7 @@ reply_matches (reply.Full node) = ((lit≤ tt, lit≤ tt), (refl, tt))
 reply_matches (reply.Gone node) = ((lit≤ tt, lit≤ tt), (refl, tt))
 reply_matches (reply.Reclaimed node) = ((lit≤ tt, lit≤ tt), (refl, tt))
 
-any_reply_matches : (r : Reply) → Matches (layouts.tagged 1 11 layouts.behind_reply) (fields_of_reply r)
+pub any_reply_matches : (r : Reply) → Matches (layouts.tagged 1 11 layouts.behind_reply) (fields_of_reply r)
 any_reply_matches (reply.Delivered node hops) = ((lit≤ tt, lit≤ tt), (refl, (refl, tt)))
 any_reply_matches (reply.Stored holders) = ((lit≤ tt, lit≤ tt), (refl, tt))
 any_reply_matches (reply.Found node bytes) = ((lit≤ tt, lit≤ tt), (refl, (refl, tt)))
@@ -147,7 +147,7 @@ size_small e fits = omega (arith, few_fields e.message, sizes_limit (contents_of
 
 -- ---- they give the message back
 
-abbrev number_in : Field → ℕ
+abbrev pub number_in : Field → ℕ
 number_in (Field.Id id) = id
 number_in (Field.Number number) = number
 number_in (Field.Attempt attempt) = attempt
@@ -156,7 +156,7 @@ number_in (Field.Copies copies) = copies
 number_in (Field.Tag tag) = tag
 number_in _ = 0
 
-abbrev list_in : Field → List ℕ
+abbrev pub list_in : Field → List ℕ
 list_in (Field.File file) = file
 list_in (Field.Bytes bytes) = bytes
 list_in (Field.Ids ids) = ids
@@ -167,21 +167,21 @@ files_in (Field.Files files) = files
 files_in (Field.Tombs tombs) = tombs
 files_in _ = []
 
-abbrev number_at : List Field → ℕ → ℕ
+abbrev pub number_at : List Field → ℕ → ℕ
 number_at fields i = number_in (get_or fields i (Field.Tag 0))
 
-abbrev list_at : List Field → ℕ → List ℕ
+abbrev pub list_at : List Field → ℕ → List ℕ
 list_at fields i = list_in (get_or fields i (Field.Tag 0))
 
 abbrev files_at : List Field → ℕ → List (List ℕ)
 files_at fields i = files_in (get_or fields i (Field.Tag 0))
 
-abbrev why_in : List Field → Why
+abbrev pub why_in : List Field → Why
 why_in fields =
     cond (eqb (number_at fields 0) 1) (why.Busy (number_at fields 1))
     (cond (eqb (number_at fields 0) 2) (why.Moved (number_at fields 1) (number_at fields 2)) why.NotReady)
 
-abbrev reply_in : List Field → Reply
+abbrev pub reply_in : List Field → Reply
 reply_in fields =
     cond (eqb (number_at fields 0) 1) (reply.Delivered (number_at fields 1) (number_at fields 2))
     (cond (eqb (number_at fields 0) 2) (reply.Stored (list_at fields 1))
@@ -220,12 +220,12 @@ message_in kind.ReplicaAck fields = Message.ReplicaAck (number_at fields 0) (num
 message_in kind.Reclaim fields = Message.Reclaim (number_at fields 0) (number_at fields 1) (number_at fields 2) (list_at fields 3)
 message_in kind.ReclaimReply fields = Message.ReclaimReply (number_at fields 0) (reply_in (drop 1 fields))
 
-why_back : (w : Why) → why_in (fields_of_why w) ≡ w
+pub why_back : (w : Why) → why_in (fields_of_why w) ≡ w
 why_back (why.Busy joiner) = refl
 why_back (why.Moved left right) = refl
 why_back why.NotReady = refl
 
-reply_back : (r : Reply) → reply_in (fields_of_reply r) ≡ r
+pub reply_back : (r : Reply) → reply_in (fields_of_reply r) ≡ r
 reply_back (reply.Delivered node hops) = refl
 reply_back (reply.Stored holders) = refl
 reply_back (reply.Found node bytes) = refl

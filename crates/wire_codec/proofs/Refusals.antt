@@ -22,11 +22,11 @@ use Rattle.wire_codec.proofs.Places.{bind_ok, ok_is, refused_if_not}
 use Rattle.wire_codec.proofs.Frames.{reading_again, spells_read}
 use Rattle.wire_codec.proofs.Shapes.{reading_said}
 
-abbrev IsOfBytes : FrameFault → Type 0
+abbrev pub IsOfBytes : FrameFault → Type 0
 IsOfBytes fault.OutOfMemory = ⊥
 IsOfBytes _ = Unit {0}
 
-abbrev RefusesBytes : {A : Type 0} → Reading A → Type 0
+abbrev pub RefusesBytes : {A : Type 0} → Reading A → Type 0
 RefusesBytes (Ok x) = Unit {0}
 RefusesBytes (Err e) = IsOfBytes e
 
@@ -70,7 +70,7 @@ field_refuses bytes Form.Tombs place =
     then_refuses (number_within bytes w16 1 MOST_ENTRIES place) _ (within_refuses bytes w16 1 MOST_ENTRIES place)
     (λ n. then_refuses (part_at bytes (place + 2) (20 * n)) _ (part_refuses bytes (place + 2) (20 * n)) (λ part. tt))
 
-walk_refuses : (bytes : List ℕ) (l : Layout) (place : ℕ) → RefusesBytes (walk bytes l place)
+pub walk_refuses : (bytes : List ℕ) (l : Layout) (place : ℕ) → RefusesBytes (walk bytes l place)
 walk_refuses bytes end place = choice_refuses (eqb place (length bytes)) (Ok tt) (Err (fault.Range place)) tt tt
 walk_refuses bytes (form ▸ more) place = then_refuses (field_at bytes form place) _ (field_refuses bytes form place) (λ field. walk_refuses bytes more field.1)
 walk_refuses bytes (tagged lowest highest behind) place =
@@ -99,7 +99,7 @@ framing_refuses bytes =
     then_refuses (header_of bytes) _ (header_refuses bytes)
     (λ k. then_refuses (walk bytes (whole_layout k) 6) _ (walk_refuses bytes (whole_layout k) 6) (λ ended. tt))
 
-due : (e : FrameFault) → IsOfBytes e → IsDue e (Some e)
+pub due : (e : FrameFault) → IsOfBytes e → IsDue e (Some e)
 due fault.OutOfMemory of_bytes = absurd of_bytes
 due (fault.Short need) of_bytes = refl
 due (fault.Version found) of_bytes = refl

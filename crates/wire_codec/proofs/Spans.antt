@@ -32,7 +32,7 @@ reading bytes = do
 abbrev values_of : List Field × ℕ → Reading (List Field)
 values_of found = Ok found.0
 
-abbrev ended : List ℕ → List Field × ℕ → Reading (Unit {0})
+abbrev pub ended : List ℕ → List Field × ℕ → Reading (Unit {0})
 ended bytes found = cond (eqb found.1 (length bytes)) (Ok tt) (Err (fault.Range found.1))
 
 -- ---- steps

@@ -6,3 +6,4 @@ pub mod Reading
 pub mod Sizes
 pub mod Writing
 pub mod Values
+pub mod Notes

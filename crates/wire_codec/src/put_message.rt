@@ -13,7 +13,7 @@ use ring_math::{FileIds, OutOfMemory};
 use wire_msg::{Message, Reply, Why};
 
 #[tactic(auto, using(crate::proofs::Written::writes_then))]
-fn put_why(out: &mut Vec<u8>, why: &Why) -> Result<(), OutOfMemory>
+pub(crate) fn put_why(out: &mut Vec<u8>, why: &Why) -> Result<(), OutOfMemory>
     ensures { OnOk result (Writes out.old.items out.new.items (fields_of_why why.now)) }
 {
     match why {
@@ -32,7 +32,7 @@ fn put_why(out: &mut Vec<u8>, why: &Why) -> Result<(), OutOfMemory>
 }
 
 #[tactic(auto, using(crate::proofs::Written::writes_then))]
-fn put_reply(out: &mut Vec<u8>, reply: &Reply) -> Result<(), OutOfMemory>
+pub(crate) fn put_reply(out: &mut Vec<u8>, reply: &Reply) -> Result<(), OutOfMemory>
     ensures { OnOk result (Writes out.old.items out.new.items (fields_of_reply reply.now)) }
 {
     match reply {

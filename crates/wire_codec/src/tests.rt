@@ -3,7 +3,7 @@ use ring_math::{Bytes, FileId, FileIds, Id, Ids, IdsBuilder};
 use std::alloc::Global;
 use std::process::Abort;
 use std::test::Fail;
-use wire_msg::{Copies, Envelope, Message, Reply, Why};
+use wire_msg::{Answer, Command, Copies, Envelope, Message, Note, Own, Reply, Why};
 
 const TEN: Id = Id(0x10000000000000000000000000000000);
 
@@ -367,6 +367,182 @@ fn there_and_back(rt: HostRuntime) -> Result<(), Fail> {
         let back = decode(alloc, frame.as_slice())?;
         let again = encode(alloc, &back)?;
         assert_eq!(rt; again.as_slice(), frame.as_slice(), "kind {kind}");
+    }
+    Ok(())
+}
+
+/// The bytes of an identifier with this first byte, and zeros behind it.
+fn id_bytes(first: u8) -> [u8; 16] {
+    let mut bytes = [0; 16];
+    bytes[0] = first;
+    bytes
+}
+
+/// The commands of all kinds, each with its spelling: a tag, and what the parts put behind it.
+fn command(alloc: Global, tag: u8) -> Result<(Command, Vec<u8>), Fail> {
+    let mut spelled = Vec::new(alloc);
+    spelled.push(tag)?;
+    Ok((
+        match tag {
+            1 => {
+                spelled.extend_from_slice(&id_bytes(0x10))?;
+                Command::Join { via: TEN }
+            }
+            2 => {
+                spelled.extend_from_slice(&id_bytes(0x30))?;
+                Command::Lookup { key: THIRTY }
+            }
+            3 => {
+                spelled.extend_from_slice(&[0xf1; 20])?;
+                spelled.extend_from_slice(&[9, 0, 2, 0x61, 0x62])?;
+                Command::Insert {
+                    file: FILE,
+                    copies: Copies::new(9).ok_or("9 copies are allowed")?,
+                    bytes: Bytes::copy_of(alloc, b"ab")?,
+                }
+            }
+            4 => {
+                spelled.extend_from_slice(&[0xf1; 20])?;
+                Command::Fetch { file: FILE }
+            }
+            5 => Command::GiveUp,
+            _ => {
+                spelled.extend_from_slice(&[0xf1; 20])?;
+                Command::Reclaim { file: FILE }
+            }
+        },
+        spelled,
+    ))
+}
+
+#[test]
+fn commands_there_and_back(rt: HostRuntime) -> Result<(), Fail> {
+    let alloc = rt.alloc();
+    for tag in 1..7 {
+        let (said, spelled) = command(alloc, tag)?;
+        let bytes = encode_command(alloc, &said)?;
+        assert_eq!(rt; bytes.as_slice(), spelled.as_slice(), "tag {tag}");
+        let back = decode_command(alloc, &spelled)?;
+        let again = encode_command(alloc, &back)?;
+        assert_eq!(rt; again.as_slice(), spelled.as_slice(), "tag {tag}");
+    }
+    Ok(())
+}
+
+/// The notes of all kinds, and those of the answers.
+fn note(alloc: Global, tag: u8) -> Result<Note, Fail> {
+    let number = 7;
+    Ok(match tag {
+        1 => Note::Accepted {
+            file: FILE,
+            bytes: Bytes::copy_of(alloc, b"")?,
+        },
+        2 => Note::Delivered {
+            origin: TEN,
+            number,
+            key: THIRTY,
+            hops: 3,
+        },
+        3 => Note::Answered {
+            origin: TEN,
+            number,
+            reply: Reply::Gone { node: THIRTY },
+        },
+        4 => Note::Reclaimed { file: FILE },
+        _ => Note::Closed {
+            number,
+            answer: answer(alloc, tag)?,
+        },
+    })
+}
+
+fn answer(alloc: Global, tag: u8) -> Result<Answer, Fail> {
+    Ok(match tag {
+        11 => Answer::Reply(reply(alloc, 2)?),
+        12 => Answer::Joined {
+            left: TEN,
+            right: THIRTY,
+        },
+        13 => Answer::Denied {
+            node: TEN,
+            why: Why::NotReady,
+        },
+        14 => Answer::Stopped {
+            node: TEN,
+            own: Own::GivenUp,
+        },
+        15 => Answer::Stopped {
+            node: TEN,
+            own: Own::Spent,
+        },
+        16 => Answer::GaveUp,
+        _ => Answer::NothingToGiveUp,
+    })
+}
+
+/// A note, its first bytes, its last and how many it has.
+const NOTES: [(u8, u8, u8, usize); 11] = [
+    (1, 1, 0, 23),
+    (2, 2, 3, 43),
+    (3, 3, 0, 42),
+    (4, 5, 0xf1, 21),
+    (11, 4, 16, 284),
+    (12, 4, 0, 42),
+    (13, 4, 3, 27),
+    (14, 4, 1, 27),
+    (15, 4, 3, 27),
+    (16, 4, 5, 10),
+    (17, 4, 6, 10),
+];
+
+#[test]
+fn notes_there_and_back(rt: HostRuntime) -> Result<(), Fail> {
+    let alloc = rt.alloc();
+    for (tag, first, last, length) in NOTES {
+        let bytes = encode_note(alloc, &note(alloc, tag)?)?;
+        assert_eq!(rt; bytes.as_slice().len(), length, "note {tag}");
+        assert_eq!(rt; bytes.as_slice().first(), Some(&first), "note {tag}");
+        assert_eq!(rt; bytes.as_slice().last(), Some(&last), "note {tag}");
+        let back = decode_note(alloc, bytes.as_slice())?;
+        let again = encode_note(alloc, &back)?;
+        assert_eq!(rt; again.as_slice(), bytes.as_slice(), "note {tag}");
+    }
+    Ok(())
+}
+
+#[test]
+fn commands_and_notes_are_refused(rt: HostRuntime) -> Result<(), Fail> {
+    let alloc = rt.alloc();
+    for (bytes, fault) in [
+        ([].as_slice(), FrameFault::Short { need: 1 }),
+        ([0].as_slice(), FrameFault::Range { place: 0 }),
+        ([7].as_slice(), FrameFault::Range { place: 0 }),
+        ([5, 0].as_slice(), FrameFault::Range { place: 1 }),
+        ([4, 0].as_slice(), FrameFault::Short { need: 21 }),
+    ] {
+        assert_eq!(rt;
+            decode_command(alloc, bytes).err(),
+            Some(fault),
+            "{bytes:?}"
+        );
+    }
+    for (bytes, fault) in [
+        ([].as_slice(), FrameFault::Short { need: 1 }),
+        ([6].as_slice(), FrameFault::Range { place: 0 }),
+        (
+            [4, 0, 0, 0, 0, 0, 0, 0, 1].as_slice(),
+            FrameFault::Short { need: 10 },
+        ),
+        (
+            [4, 0, 0, 0, 0, 0, 0, 0, 1, 7].as_slice(),
+            FrameFault::Range { place: 9 },
+        ),
+        (
+            [4, 0, 0, 0, 0, 0, 0, 0, 1, 5, 5].as_slice(),
+            FrameFault::Range { place: 10 },
+        ),
+    ] {
+        assert_eq!(rt; decode_note(alloc, bytes).err(), Some(fault), "{bytes:?}");
     }
     Ok(())
 }

@@ -13,7 +13,7 @@ use crate::field::{
 use crate::kind::{Kind, Version};
 
 /// No byte is left.
-fn walk_end(bytes: &[u8], place: usize) -> Result<(), FrameFault>
+pub(crate) fn walk_end(bytes: &[u8], place: usize) -> Result<(), FrameFault>
     ensures { Reads (λ ended. ended) result (walk bytes.now end place) }
 {
     if place != bytes.len() {
@@ -22,7 +22,7 @@ fn walk_end(bytes: &[u8], place: usize) -> Result<(), FrameFault>
     Ok(())
 }
 
-fn walk_why(bytes: &[u8], place: usize) -> Result<(), FrameFault>
+pub(crate) fn walk_why(bytes: &[u8], place: usize) -> Result<(), FrameFault>
     requires { place ≤ length bytes.now }
     ensures { Reads (λ ended. ended) result (walk bytes.now why place) }
 {
@@ -43,7 +43,12 @@ fn walk_why(bytes: &[u8], place: usize) -> Result<(), FrameFault>
 }
 
 /// A reply whose tag is from `lowest` to `highest`.
-fn walk_tagged(bytes: &[u8], lowest: u8, highest: u8, place: usize) -> Result<(), FrameFault>
+pub(crate) fn walk_tagged(
+    bytes: &[u8],
+    lowest: u8,
+    highest: u8,
+    place: usize,
+) -> Result<(), FrameFault>
     requires { place ≤ length bytes.now }
     ensures { Reads (λ ended. ended) result (walk bytes.now (tagged lowest highest behind_reply) place) }
 {
