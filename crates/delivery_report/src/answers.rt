@@ -1,11 +1,11 @@
 //! How commands were closed.
 
 ghost use Rattle.std.specs.Prelude.{◌≡◌, ◌++◌, codes, decimal, OnOk};
-ghost use Rattle.delivery_report.specs.Answers.{name_of, reply_text, why_text, own_text, answer_text};
+ghost use Rattle.delivery_report.specs.Answers.{name_of, bytes_text, reply_text, why_text, own_text, answer_text};
 
 use crate::names::Names;
-use crate::text::Text;
 use ring_math::{Id, OutOfMemory};
+use text_writer::Text;
 use wire_msg::{Answer, Own, Reply, Why};
 
 /// How a command was closed.
@@ -46,7 +46,7 @@ fn reply_of(text: &mut Text, names: &Names, reply: &Reply) -> Result<(), OutOfMe
         Reply::Found { node, bytes } => {
             names.write_after(text, b"found by ", *node)?;
             text.put(b" ")?;
-            text.hex(bytes.as_slice())
+            put_bytes(text, bytes.as_slice())
         }
         Reply::NotFound { node } => names.write_after(text, b"missing by ", *node),
         Reply::Collision { node } => names.write_after(text, b"collision by ", *node),
@@ -123,4 +123,15 @@ fn with_number(
 {
     names.write_after(text, word, node)?;
     text.number_after(number_word, u64::from(number))
+}
+
+/// Bytes in hexadecimal, a dash where there are none.
+fn put_bytes(text: &mut Text, bytes: &[u8]) -> Result<(), OutOfMemory>
+    ensures { OnOk result (text.new ≡ text.old ++ bytes_text bytes.now) }
+{
+    if bytes.is_empty() {
+        text.put(b"-")
+    } else {
+        text.hex(bytes)
+    }
 }

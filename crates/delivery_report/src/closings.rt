@@ -7,11 +7,11 @@ ghost use Rattle.delivery_report.specs.Texts.{commands_of};
 
 use crate::answers::answer;
 use crate::names::Names;
-use crate::text::Text;
 use overlay_rules::Entries;
 use ring_math::OutOfMemory;
 use scenario_reader::{Scenario, What};
 use std::alloc::Global;
+use text_writer::Text;
 use wire_msg::{Answer, Note};
 
 /// How many commands a scenario has.

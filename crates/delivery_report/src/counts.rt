@@ -7,10 +7,10 @@ ghost use Rattle.overlay_rules.specs.Played.{is_delivery_of};
 ghost use Rattle.overlay_rules.specs.Seen.{event_seen};
 ghost use Rattle.delivery_report.specs.Report.{is_delivery, is_joining_note, summary_of, summary_line};
 
-use crate::text::Text;
 use overlay_rules::{Entries, EventRef, Record};
 use ring_math::OutOfMemory;
 use std::alloc::Global;
+use text_writer::Text;
 use wire_msg::{Answer, Note};
 
 /// What the summary counts.

@@ -7,9 +7,9 @@ ghost use Rattle.overlay_rules.specs.Seen.{event_seen};
 ghost use Rattle.delivery_report.specs.Deliveries.{delivery_line, note_lines, entry_lines, delivery_lines, node_of};
 
 use crate::names::Names;
-use crate::text::Text;
 use overlay_rules::{Entries, EventRef};
 use ring_math::{Id, OutOfMemory};
+use text_writer::Text;
 use wire_msg::{Envelope, Note};
 
 /// A line for each delivery, in the order of the record.

@@ -14,18 +14,17 @@ mod counts;
 mod deliveries;
 mod names;
 mod tally;
-mod text;
 
 use crate::closings::{closings_of, command_count, command_lines};
 use crate::counts::summary_of;
 use crate::deliveries::delivery_lines;
 use crate::names::Names;
 use crate::tally::tally_of;
-use crate::text::Text;
 use overlay_rules::Record;
 use ring_math::OutOfMemory;
 use scenario_reader::{NodeLine, Scenario};
 use std::alloc::Global;
+use text_writer::Text;
 use wire_msg::Frame;
 
 /// The report of a scenario and its record.

@@ -5,12 +5,12 @@ ghost use Rattle.std.specs.Option.{option_copied};
 ghost use Rattle.scenario_reader.specs.declared.node.NodeLine.{NodeLine as PlainNode};
 ghost use Rattle.delivery_report.specs.Answers.{name_of, names_of};
 
-use crate::text::Text;
 use ring_math::{Id, OutOfMemory};
 use scenario_reader::NodeLine;
 use std::alloc::Global;
 use std::collections::BTreeMap;
 use std::marker::Model;
+use text_writer::Text;
 
 /// The nodes of a scenario, to be found by their identifiers.
 #[derive(Drop)]

@@ -4,8 +4,8 @@ ghost use Rattle.std.specs.Prelude.{◌≡◌, ◌++◌, map, OnOk};
 ghost use Rattle.std.specs.Option.{option_copied};
 ghost use Rattle.delivery_report.specs.Tally.{reply_outcome, answer_outcome, outcome_of, is_same, count_of, tally_of, tally_line};
 
-use crate::text::Text;
 use ring_math::OutOfMemory;
+use text_writer::Text;
 use wire_msg::{Answer, Reply};
 
 /// How many commands were closed in which way.

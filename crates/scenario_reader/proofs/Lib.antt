@@ -1,5 +1,5 @@
-mod Numbers
-mod Cuts
+pub mod Numbers
+pub mod Cuts
 mod Pieces
 mod Growth
 mod Marked

@@ -34,4 +34,5 @@ pub use name::Name;
 pub use node::{FileLine, NodeLine};
 pub use read::read_scenario;
 pub use scenario::Scenario;
+pub use spelling::number;
 pub use tally::Tally;

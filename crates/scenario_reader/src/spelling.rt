@@ -27,8 +27,9 @@ fn is_name_byte(byte: u8) -> bool
     byte.is_ascii_alphanumeric() || byte == b'_'
 }
 
-/// The number that a word spells, None where it spells none or one above 18,446,744,073,709,551,615.
-pub(crate) fn number(text: &[u8]) -> Option<u64>
+/// The number that a word spells in decimal, without zeros in front. None where it spells none, or one above
+/// 18,446,744,073,709,551,615.
+pub fn number(text: &[u8]) -> Option<u64>
     ensures { result ≡ number_of text.now }
 {
     if !is_decimal(text) {

@@ -1,8 +1,10 @@
-//! Texts that grow at their end.
+//! Texts that grow at their end: words, numbers, identifiers, and bytes in hexadecimal. Each is written once, into one
+//! buffer.
+#![tactic(auto)]
 
 ghost use Rattle.std.specs.Prelude.{◌≡◌, ◌++◌, [], decimal, OnOk};
+ghost use Rattle.hex.specs.Hex.{encode_lower};
 ghost use Rattle.ring_math.specs.Texts.{text_of};
-ghost use Rattle.delivery_report.specs.Answers.{bytes_text};
 
 use itoa::Buffer;
 use ring_math::{Id, OutOfMemory, id_to_hex};
@@ -12,7 +14,7 @@ use wire_msg::Frame;
 
 /// A text, seen as its bytes.
 #[derive(Drop)]
-pub(crate) struct Text {
+pub struct Text {
     bytes: Vec<u8>,
 }
 
@@ -25,7 +27,8 @@ impl Model for Text {
 }
 
 impl Text {
-    pub(crate) fn new(alloc: Global) -> Text
+    /// No byte yet. It takes no memory.
+    pub fn new(alloc: Global) -> Text
         ensures { result ≡ [] }
     {
         Text {
@@ -33,7 +36,8 @@ impl Text {
         }
     }
 
-    pub(crate) fn put(&mut self, word: &[u8]) -> Result<(), OutOfMemory>
+    /// These bytes.
+    pub fn put(&mut self, word: &[u8]) -> Result<(), OutOfMemory>
         ensures { OnOk result (self.new ≡ self.old ++ word.now) }
     {
         self.bytes.extend_from_slice(word)?;
@@ -41,7 +45,7 @@ impl Text {
     }
 
     /// A number in decimal.
-    pub(crate) fn number(&mut self, number: u64) -> Result<(), OutOfMemory>
+    pub fn number(&mut self, number: u64) -> Result<(), OutOfMemory>
         ensures { OnOk result (self.new ≡ self.old ++ decimal number) }
     {
         let mut digits = Buffer::new();
@@ -49,7 +53,7 @@ impl Text {
     }
 
     /// A word and a number.
-    pub(crate) fn number_after(&mut self, word: &[u8], number: u64) -> Result<(), OutOfMemory>
+    pub fn number_after(&mut self, word: &[u8], number: u64) -> Result<(), OutOfMemory>
         ensures { OnOk result (self.new ≡ self.old ++ (word.now ++ decimal number)) }
     {
         self.put(word)?;
@@ -57,27 +61,24 @@ impl Text {
     }
 
     /// The 32 digits of an identifier.
-    pub(crate) fn id(&mut self, id: Id) -> Result<(), OutOfMemory>
+    pub fn id(&mut self, id: Id) -> Result<(), OutOfMemory>
         ensures { OnOk result (self.new ≡ self.old ++ text_of id) }
     {
         self.put(&id_to_hex(id))
     }
 
     /// A word and an identifier.
-    pub(crate) fn id_after(&mut self, word: &[u8], id: Id) -> Result<(), OutOfMemory>
+    pub fn id_after(&mut self, word: &[u8], id: Id) -> Result<(), OutOfMemory>
         ensures { OnOk result (self.new ≡ self.old ++ (word.now ++ text_of id)) }
     {
         self.put(word)?;
         self.id(id)
     }
 
-    /// Bytes in hexadecimal, a dash where there are none.
-    pub(crate) fn hex(&mut self, bytes: &[u8]) -> Result<(), OutOfMemory>
-        ensures { OnOk result (self.new ≡ self.old ++ bytes_text bytes.now) }
+    /// Bytes in hexadecimal, in lower case.
+    pub fn hex(&mut self, bytes: &[u8]) -> Result<(), OutOfMemory>
+        ensures { OnOk result (self.new ≡ self.old ++ encode_lower bytes.now) }
     {
-        if bytes.is_empty() {
-            return self.put(b"-");
-        }
         let start = self.bytes.len();
         let room = bytes.len().checked_mul(2).ok_or(OutOfMemory)?;
         let end = start.checked_add(room).ok_or(OutOfMemory)?;
@@ -86,9 +87,13 @@ impl Text {
         Ok(())
     }
 
-    pub(crate) fn into_frame(self) -> Frame
+    /// The whole text. It takes no memory.
+    pub fn into_frame(self) -> Frame
         ensures { result ≡ self }
     {
         Frame::from(self.bytes)
     }
 }
+
+#[cfg(test)]
+mod tests;

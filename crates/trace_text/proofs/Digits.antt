@@ -1,0 +1,147 @@
+-- Digits of hexadecimal in lower case, and decimal digits: what is written is read, and what is read was written so.
+use Rattle.std.proofs.Common.{◌≡◌, ℕ, suc, ◌+◌, ◌*◌, ◌/◌, ◌%◌, ◌<◌, Bool, true, false, cond, ◌&&◌, eqb, List, [], ◌∷◌}
+use Rattle.std.proofs.Common.{length}
+use Rattle.std.proofs.Common.{slice_index, Option, Some, None, unwrap_or, Result, Ok, Err, refl, sym, ap, subst, ◌∙◌, arith}
+use Rattle.std.specs.Prelude.{nat_lt, MatchResult}
+use Rattle.std.specs.List.{list_all}
+use Rattle.std.specs.Result.{result_unwrap_or}
+use Rattle.std.proofs.lemmas.Bool.{and_from, and_parts, eqb-true, ltb-true}
+use Rattle.std.proofs.lemmas.Bool.Decides.{nat_tests}
+use Rattle.hex.specs.Hex.{decode_pairs, decode_sized, encode_lower, encode_with, hex_digit_value, lower_digits, pair_value}
+use Rattle.hex.specs.declared.error.FromHexError.{FromHexError}
+use Rattle.hex.proofs.HexLemmas.{length-encode_with, decode_sized-encode_lower, decode_sized-ok}
+use Rattle.hex.proofs.Pairs.{cons_byte, decode_pairs-ok_pair, decode_sized-pairs}
+use Rattle.wire_codec.specs.Fields.{AreBytes}
+use Rattle.trace_text.specs.Digits.{is_lower_digit, AreDigitsOf}
+use Rattle.trace_text.proofs.Bytes.{AreBytes-none, AreBytes-more}
+use Rattle.trace_text.proofs.Tables.{all_below-at}
+
+-- ---- one digit
+
+abbrev value_of : ℕ → ℕ
+value_of digit = unwrap_or (hex_digit_value digit) 99
+
+abbrev reads_back : ℕ → Bool
+reads_back digit = cond (is_lower_digit digit) (nat_lt (value_of digit) 16 && eqb (slice_index lower_digits (value_of digit)) digit) true
+
+-- a digit has a value, and is the digit of that
+record IsDigitOf (digit value : ℕ) : Type 0 where
+  value_is : hex_digit_value digit ≡ Some value
+  small : value < 16
+  digit_is : slice_index lower_digits value ≡ digit
+
+some_value : (o : Option ℕ) → unwrap_or o 99 < 16 → o ≡ Some (unwrap_or o 99)
+some_value (Some v) small = refl
+some_value None small = absurd (omega arith)
+
+lower_small : (digit : ℕ) → is_lower_digit digit ≡ true → digit < 103
+lower_small digit h = grind (arith, nat_tests, h)
+
+lower_read : (digit : ℕ) → is_lower_digit digit ≡ true → IsDigitOf digit (value_of digit)
+lower_read digit h =
+    let tried : reads_back digit ≡ true = all_below-at reads_back 103 digit refl (lower_small digit h) in
+    let both : (nat_lt (value_of digit) 16 && eqb (slice_index lower_digits (value_of digit)) digit) ≡ true = rw h at tried in
+    let parts = and_parts (nat_lt (value_of digit) 16) (eqb (slice_index lower_digits (value_of digit)) digit) both in
+    let small : value_of digit < 16 = ltb-true (value_of digit) 16 parts.0 in
+    record {
+      value_is = some_value (hex_digit_value digit) small;
+      small = small;
+      digit_is = eqb-true (slice_index lower_digits (value_of digit)) digit parts.1;
+    }
+
+pub lower_written : (value : ℕ) → value < 16 → is_lower_digit (slice_index lower_digits value) ≡ true
+lower_written value small = all_below-at (λ (v : ℕ). is_lower_digit (slice_index lower_digits v)) 16 value refl small
+
+-- ---- digits of bytes
+
+pub encoded_lower : (bytes : List ℕ) → AreBytes bytes → list_all is_lower_digit (encode_lower bytes) ≡ true
+unfolding encode_with
+encoded_lower [] fits = refl
+encoded_lower (b ∷ bytes) fits =
+    let small : b < 256 = fits 0 in
+    and_from (is_lower_digit (slice_index lower_digits (b / 16)))
+    (is_lower_digit (slice_index lower_digits (b % 16)) && list_all is_lower_digit (encode_lower bytes)) (lower_written (b / 16) (omega arith))
+    (and_from (is_lower_digit (slice_index lower_digits (b % 16))) (list_all is_lower_digit (encode_lower bytes)) (lower_written (b % 16) (omega arith))
+    (encoded_lower bytes (λ i. fits (suc i))))
+
+-- digits in pairs are those of the bytes that they decode to
+pub record AreRead (i : ℕ) (text : List ℕ) : Type 0 where
+  pub bytes : List ℕ
+  pub decoded : decode_pairs i text ≡ Ok bytes
+  pub spelled : encode_lower bytes ≡ text
+  pub fit : AreBytes bytes
+
+pub pairs_read : (i : ℕ) (text : List ℕ) → length text % 2 ≡ 0 → list_all is_lower_digit text ≡ true → AreRead i text
+unfolding decode_pairs encode_with
+pairs_read i [] even lower = record { bytes = []; decoded = refl; spelled = refl; fit = AreBytes-none }
+pairs_read i (a ∷ []) even lower = absurd (omega arith)
+pairs_read i (a ∷ b ∷ rest) even lower =
+    let parts = and_parts (is_lower_digit a) (is_lower_digit b && list_all is_lower_digit rest) lower in
+    let others = and_parts (is_lower_digit b) (list_all is_lower_digit rest) parts.1 in
+    let high = lower_read a parts.0 in
+    let low = lower_read b others.0 in
+    let ih = pairs_read (i + 2) rest (omega arith) others.1 in
+    let byte : ℕ = value_of a * 16 + value_of b in
+    let high_value = high.value_is in
+    let low_value = low.value_is in
+    let pair : pair_value a b i ≡ Ok byte = rw (high_value, low_value) refl in
+    let high_is : byte / 16 ≡ value_of a = omega (arith, low.small) in
+    let low_is : byte % 16 ≡ value_of b = omega (arith, low.small) in
+    record {
+      bytes = byte ∷ ih.bytes;
+      decoded = decode_pairs-ok_pair i a b byte rest pair ∙ ap (cons_byte byte) ih.decoded;
+      spelled = ap (λ (d : ℕ). slice_index lower_digits d ∷ slice_index lower_digits (byte % 16) ∷ encode_lower ih.bytes) high_is
+          ∙ ap (λ (d : ℕ). d ∷ slice_index lower_digits (byte % 16) ∷ encode_lower ih.bytes) high.digit_is
+          ∙ ap (λ (d : ℕ). a ∷ slice_index lower_digits d ∷ encode_lower ih.bytes) low_is
+          ∙ ap (λ (d : ℕ). a ∷ d ∷ encode_lower ih.bytes) low.digit_is
+          ∙ ap (λ (t : List ℕ). a ∷ b ∷ t) ih.spelled;
+      fit = AreBytes-more byte ih.bytes (omega (arith, high.small, low.small)) ih.fit;
+    }
+
+-- ---- what decoding answers
+
+ok_told : (a b : List ℕ) (r : Result (List ℕ) FromHexError) → r ≡ Ok a → r ≡ Ok b → a ≡ b
+ok_told a b r one two = ap (λ (x : Result (List ℕ) FromHexError). result_unwrap_or x []) (sym one ∙ two)
+
+-- what was decoded of lower case is spelled so
+pub decoded_digits : (text bytes : List ℕ) (n : ℕ) → list_all is_lower_digit text ≡ true → decode_sized text n ≡ Ok bytes → AreDigitsOf text bytes
+decoded_digits text bytes n lower e =
+    let twice = decode_sized-ok text n bytes e in
+    let even : length text % 2 ≡ 0 = omega (arith, twice) in
+    let half : length text / 2 ≡ n = omega (arith, twice) in
+    let read = pairs_read 0 text even lower in
+    let same : read.bytes ≡ bytes = ok_told read.bytes bytes (decode_sized text n) (decode_sized-pairs text n even half ∙ read.decoded) e in
+    subst (AreDigitsOf text) same (record { text_is = sym read.spelled; are_bytes = read.fit })
+
+-- digits of bytes are in lower case, and are decoded
+pub digits_lower : (text bytes : List ℕ) → AreDigitsOf text bytes → list_all is_lower_digit text ≡ true
+digits_lower text bytes digits = ap (list_all is_lower_digit) digits.text_is ∙ encoded_lower bytes digits.are_bytes
+
+pub digits_decoded : (text bytes : List ℕ) → AreDigitsOf text bytes → decode_sized text (length text / 2) ≡ Ok bytes
+digits_decoded text bytes digits =
+    let long : length text ≡ 2 * length bytes = ap length digits.text_is ∙ length-encode_with lower_digits bytes in
+    let half : length bytes ≡ length text / 2 = omega (arith, long) in
+    ap (λ (t : List ℕ). decode_sized t (length text / 2)) digits.text_is
+    ∙ decode_sized-encode_lower bytes (length text / 2) half digits.are_bytes
+
+pub not_lower : (text bytes : List ℕ) → list_all is_lower_digit text ≡ false → AreDigitsOf text bytes → ⊥
+not_lower text bytes upper digits = let lower = digits_lower text bytes digits in cc
+
+pub not_decoded : (text bytes : List ℕ) (e : FromHexError) (n : ℕ) → n ≡ length text / 2 → decode_sized text n ≡ Err e → AreDigitsOf text bytes → ⊥
+not_decoded text bytes e n half refused digits =
+    let read : decode_sized text n ≡ Ok bytes = ap (decode_sized text) half ∙ digits_decoded text bytes digits in
+    cc
+
+-- the decoder's answer in its own words
+pub decoded_ok : (d : Result (List ℕ) FromHexError) (out : List ℕ) (r : Result (Unit {0}) FromHexError) → r ≡ Ok tt →
+    MatchResult d (λ bytes. (r ≡ Ok tt) × (out ≡ bytes)) (λ e. r ≡ Err e) → d ≡ Ok out
+decoded_ok (Ok bytes) out r ok value = ap Ok (sym value.1)
+decoded_ok (Err e) out r ok value = let both : (Ok tt) ≡ (Err e) = sym ok ∙ value in cc
+
+pub decoded_err : (d : Result (List ℕ) FromHexError) (out : List ℕ) (r : Result (Unit {0}) FromHexError) (f : FromHexError) → r ≡ Err f →
+    MatchResult d (λ bytes. (r ≡ Ok tt) × (out ≡ bytes)) (λ e. r ≡ Err e) → d ≡ Err f
+decoded_err (Ok bytes) out r f err value = let both : (Err f) ≡ (Ok tt) = sym err ∙ value.0 in cc
+decoded_err (Err e) out r f err value = let both : (Err e) ≡ (Err f) = sym value ∙ err in cc
+
+pub digits_size : (text bytes : List ℕ) → AreDigitsOf text bytes → length text ≡ 2 * length bytes
+digits_size text bytes digits = ap length digits.text_is ∙ length-encode_with lower_digits bytes

@@ -1,0 +1,13 @@
+pub mod Cuts
+pub mod Tables
+pub mod Bytes
+pub mod Digits
+pub mod Ids
+pub mod Spelled
+pub mod Fronts
+pub mod Refused
+pub mod Written
+pub mod Reading
+pub mod Leading
+pub mod Unique
+pub mod Complete

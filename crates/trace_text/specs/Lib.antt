@@ -1,0 +1,6 @@
+pub mod Lines
+pub mod Traces
+pub mod Writing
+pub mod Digits
+pub mod Fronts
+pub mod Answers
