@@ -1,5 +1,5 @@
--- What a cell is seen as: its node, its history, and the frames that it has not handed out yet.
-use Rattle.std.specs.Prelude.{Bool, List, [], ◌∷◌, ◌++◌, map}
+-- What a cell is seen as: its node, its history, the frames that it has not handed out yet, and its passes, if it has any.
+use Rattle.std.specs.Prelude.{Bool, Option, None, List, [], ◌∷◌, ◌++◌, map}
 use Rattle.ring_math.specs.Names.{Id, Stamp}
 use Rattle.wire_msg.specs.Words.{Envelope}
 use Rattle.overlay_rules.specs.State.{State, start}
@@ -7,16 +7,18 @@ use Rattle.wire_codec.specs.Spelling.{spelling}
 use Rattle.weave_laws.specs.Cells.{CellInput, CellEntry, replay, last_stamp}
 use Rattle.weave_laws.specs.Given.{next_entry}
 use Rattle.node_cell.specs.declared.frames.Addressed.{Addressed}
+use Rattle.node_cell.specs.declared.carried.Carried.{Carried}
 
 pub record Cell : Type 0 where
   pub node : Id
   pub is_founder : Bool
   pub history : List CellEntry
   pub unsent : List Addressed
+  pub carried : Option Carried
 
 -- nothing came yet
 abbrev pub empty_cell : Id → Bool → Cell
-empty_cell x founder = record { node = x; is_founder = founder; history = []; unsent = [] }
+empty_cell x founder = record { node = x; is_founder = founder; history = []; unsent = []; carried = None }
 
 abbrev pub stamp_of : Cell → Stamp
 stamp_of c = last_stamp 0 c.history

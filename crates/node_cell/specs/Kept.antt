@@ -1,6 +1,5 @@
 -- What a cell keeps, by its type.
 use Rattle.std.specs.Prelude.{◌≡◌, List, ◌++◌, All, map}
-use Rattle.std.specs.List.{flat_map}
 use Rattle.ring_math.specs.Names.{Id, Stamp}
 use Rattle.wire_msg.specs.Words.{Envelope}
 use Rattle.overlay_rules.specs.State.{State}
@@ -16,11 +15,9 @@ use Rattle.weave_laws.specs.Numbers.{NumbersRise}
 use Rattle.node_cell.specs.declared.frames.Addressed.{Addressed}
 use Rattle.node_cell.specs.declared.plan.Planned.{Planned}
 use Rattle.node_cell.specs.Entries.{plain_entry}
+use Rattle.node_cell.specs.Sent.{sent_by}
+use Rattle.node_cell.specs.Carried.{KeepsCarried}
 use Rattle.node_cell.specs.Cell.{Cell, stamp_of, state_of, frame_of}
-
--- all that a history sent, in order
-abbrev pub sent_by : List CellEntry → List Envelope
-sent_by es = flat_map (λ (e : CellEntry). e.sent) es
 
 -- its spelling is a frame, which is read as it again
 pub record HasFrame (v : Envelope) : Type 0 where
@@ -41,6 +38,7 @@ pub record IsCell (node : Node) (stamp : Stamp) (c : Cell) : Type 0 where
   pub stamped : stamp ≡ stamp_of c
   pub stands : Stands node (state_of c)
   pub unsent : AreUnsent c.history c.unsent
+  pub carried : KeepsCarried c.node c.history c.carried
 
 -- the change, the entry and the frames are those of the step of node x at this input
 pub record IsPlanned (x : Id) (s : State) (stamp : Stamp) (i : CellInput) (r : Planned) : Type 0 where

@@ -1,6 +1,13 @@
 pub mod Entries
-pub mod Cell
 pub mod Reading
+pub mod Sent
+pub mod Carried
+pub mod Cell
 pub mod Kept
 pub mod Faults
 pub mod Taken
+pub mod Equipped
+pub mod Serving
+pub mod Posting
+pub mod Gathering
+pub mod Histories

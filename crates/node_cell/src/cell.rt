@@ -1,8 +1,9 @@
 //! A cell, one input after another.
 
-ghost use Rattle.std.specs.Prelude.{◌≡◌, ◌<◌, ◌∷◌, [], suc, IfOk, IfErr, IfSome, IfNone, OnOk, OnErr, All};
+ghost use Rattle.std.specs.Prelude.{◌≡◌, ◌<◌, ◌∷◌, [], suc, None, IfOk, IfErr, IfSome, IfNone, OnOk, OnErr, All};
 ghost use Rattle.node_cell.specs.Entries.{plain_history, plain_input_of};
 ghost use Rattle.node_cell.specs.Cell.{empty_cell, stamp_of, with_input};
+ghost use Rattle.node_cell.specs.Carried.{IsBesidePasses};
 ghost use Rattle.node_cell.specs.Faults.{IsDueTo, greater_stamp};
 ghost use Rattle.node_cell.specs.Taken.{IsDueToBytes, TookBytes};
 ghost use Rattle.node_cell.specs.declared.fault.TheConstants.{LAST_STAMP};
@@ -10,6 +11,7 @@ ghost use Rattle.weave_laws.specs.Cells as plain;
 ghost use Rattle.weave_laws.specs.Cells.{IsCellHistory, IsFor};
 ghost use Rattle.weave_laws.specs.Numbers.{IsNumberedAfter, NumbersRise};
 
+use crate::carried::Carried;
 use crate::entry::{CellEntry, CellInput};
 use crate::fault::CellFault;
 use crate::frames::{Addressed, append};
@@ -22,14 +24,16 @@ use std::collections::VecDeque;
 use std::marker::Model;
 use wire_msg::{Command, Frame};
 
-/// A node, the history of all that came to it, and the frames that it has not handed out yet.
+/// A node, the history of all that came to it, the frames that it has not handed out yet, and its passes to mailboxes, if it has
+/// any.
 #[derive(Drop)]
 pub struct NodeCell {
-    node: Node,
+    pub(crate) node: Node,
     is_founder: bool,
     history: Vec<CellEntry>,
     stamp: u64,
-    unsent: VecDeque<Addressed>,
+    pub(crate) unsent: VecDeque<Addressed>,
+    pub(crate) carried: Option<Carried>,
 }
 
 impl Model for NodeCell {
@@ -39,9 +43,9 @@ impl Model for NodeCell {
 
     ghost Value = { Cell };
 
-    ghost view = { λ a. record { node = a.node.me; is_founder = a.is_founder; history = plain_history a.history.items; unsent = a.unsent.items } };
+    ghost view = { λ a. record { node = a.node.me; is_founder = a.is_founder; history = plain_history a.history.items; unsent = a.unsent.items; carried = a.carried } };
 
-    ghost invariant = { λ a. IsCell a.node a.stamp (record { node = a.node.me; is_founder = a.is_founder; history = plain_history a.history.items; unsent = a.unsent.items }) };
+    ghost invariant = { λ a. IsCell a.node a.stamp (record { node = a.node.me; is_founder = a.is_founder; history = plain_history a.history.items; unsent = a.unsent.items; carried = a.carried }) };
 }
 
 impl NodeCell {
@@ -60,13 +64,15 @@ impl NodeCell {
             history: Vec::new(alloc),
             stamp: 0,
             unsent: VecDeque::new(alloc),
+            carried: None,
         })
     }
 
     /// Takes in bytes that came to the node: the message of a frame that is addressed to it, and else noise. One entry is added,
     /// whose stamp is one more than the greater of the cell's and the input's. `Spent` comes only where that greater one is the
-    /// last stamp, and then nothing is taken in. After a fault the cell is as before.
+    /// last stamp, and then nothing is taken in. After a fault the cell is as before. A cell with passes serves instead.
     pub fn handle(&mut self, alloc: Global, frame: &[u8]) -> Result<(), CellFault>
+        requires { self.old.carried ≡ None }
         ensures ok { OnOk result (TookBytes self.old frame.now self.new) }
         ensures err { OnErr result (self.new ≡ self.old) }
         ensures due { IfErr result (IsDueToBytes self.old frame.now) }
@@ -91,8 +97,10 @@ impl NodeCell {
         self.take_in(alloc, input)
     }
 
-    /// The first frame that was not handed out yet, and whom it is for; None exactly where none is left. It takes no memory.
+    /// The first frame that was not handed out yet, and whom it is for; None exactly where none is left. It takes no memory. A
+    /// cell with passes posts instead.
     pub fn next_unsent(&mut self) -> Option<(Id, Frame)>
+        requires { self.old.carried ≡ None }
         ensures some { IfSome result (λ next. self.old ≡ record self.new { unsent = record { receiver = next.0; frame = next.1 } ∷ self.new.unsent }) }
         ensures none { IfNone result (self.old.unsent ≡ []) }
         ensures same { IfNone result (self.new ≡ self.old) }
@@ -124,10 +132,11 @@ impl NodeCell {
         self.stamp
     }
 
-    /// Takes in an input that is the node's.
+    /// Takes in an input that is the node's, and comes in no frame that its passes took.
     fn take_in(&mut self, alloc: Global, input: CellInput) -> Result<(), CellFault>
         requires addressed { IsFor self.old.node (plain_input_of input) }
         requires numbered { All (λ e. IsNumberedAfter e.input (plain_input_of input)) self.old.history }
+        requires beside { IsBesidePasses self.old.carried (plain_input_of input) }
         ensures ok { OnOk result (self.new ≡ with_input self.old (plain_input_of input)) }
         ensures err { OnErr result (self.new ≡ self.old) }
         ensures due { IfErr result (IsDueTo self.old (plain_input_of input)) }

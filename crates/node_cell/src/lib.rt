@@ -4,16 +4,21 @@
 //! the message that came in, so the stamps of all cells together extend the order in which things could cause one another.
 #![tactic(auto)]
 
+mod carried;
 mod cell;
 mod entry;
 mod fault;
 mod frames;
+mod gathering;
 mod plan;
+mod posting;
 mod reading;
+mod serving;
 
 pub use cell::NodeCell;
 pub use entry::{CellEntry, CellInput};
 pub use fault::CellFault;
+pub use gathering::gather;
 
 #[cfg(test)]
 mod tests;

@@ -1,11 +1,13 @@
 //! What no clause says: that cells take in what comes with ample memory, and whole rows, frame by frame, among several cells.
 
+ghost use Rattle.std.specs.Prelude.{◌≡◌, None, All, IfOk};
+
 use crate::{CellFault, CellInput, NodeCell};
 use ring_math::Id;
 use std::alloc::Global;
 use std::test::Fail;
 use wire_codec::encode;
-use wire_msg::{Answer, Command, Envelope, Message, Note};
+use wire_msg::{Answer, Command, Envelope, Frame, Message, Note};
 
 const A: Id = Id(0x10 << 120);
 
@@ -19,13 +21,49 @@ fn is_sent<T: Send>(_value: &T) {}
 #[derive(Drop)]
 struct Trial {
     cells: Vec<NodeCell>,
+    ghost without: { All (λ cell. cell.carried ≡ None) cells.items },
 }
 
 /// The cell of a node that was told to join, as its first command.
-fn joining(alloc: Global, me: Id, number: u64, via: Id) -> Result<NodeCell, Fail> {
+fn joining(alloc: Global, me: Id, number: u64, via: Id) -> Result<NodeCell, Fail>
+    ensures { IfOk result (λ cell. cell.carried ≡ None) }
+{
     let mut cell = NodeCell::new(alloc, me, false)?;
     cell.submit(alloc, number, &Command::Join { via })?;
     Ok(cell)
+}
+
+/// The first frame that a cell did not hand out yet.
+fn next_of(cells: &mut [NodeCell]) -> Option<(Id, Frame)>
+    requires { All (λ cell. cell.carried ≡ None) cells.old }
+    ensures { All (λ cell. cell.carried ≡ None) cells.new }
+{
+    for place in 0..cells.len() {
+        let cell = &mut cells[place];
+        if let Some(next) = cell.next_unsent() {
+            return Some(next);
+        }
+    }
+    None
+}
+
+/// Hands the frame over to the cell that it is for.
+fn hand_over(
+    cells: &mut [NodeCell],
+    alloc: Global,
+    receiver: Id,
+    frame: &Frame,
+) -> Result<(), CellFault>
+    requires { All (λ cell. cell.carried ≡ None) cells.old }
+    ensures { All (λ cell. cell.carried ≡ None) cells.new }
+{
+    for place in 0..cells.len() {
+        let cell = &mut cells[place];
+        if cell.me() == receiver {
+            cell.handle(alloc, frame.as_slice())?;
+        }
+    }
+    Ok(())
 }
 
 impl Trial {
@@ -35,18 +73,20 @@ impl Trial {
         }
     }
 
+    fn add(&mut self, cell: NodeCell) -> Result<(), Fail>
+        requires { cell.carried ≡ None }
+    {
+        self.cells.push(cell)?;
+        Ok(())
+    }
+
     /// Hands over frames until none is left, each to the cell that it is for.
     fn settle(&mut self, alloc: Global) -> Result<(), Fail> {
         for _ in 0..1_000 {
-            let Some((receiver, frame)) = self.cells.iter_mut().find_map(NodeCell::next_unsent)
-            else {
+            let Some((receiver, frame)) = next_of(&mut self.cells) else {
                 return Ok(());
             };
-            for cell in &mut self.cells {
-                if cell.me() == receiver {
-                    cell.handle(alloc, frame.as_slice())?;
-                }
-            }
+            hand_over(&mut self.cells, alloc, receiver, &frame)?;
         }
         Err("too many frames")?
     }
@@ -91,10 +131,10 @@ impl Trial {
 
 /// A founds a ring; B joins by way of A, and then C by way of B.
 fn join_both(trial: &mut Trial, alloc: Global) -> Result<(), Fail> {
-    trial.cells.push(NodeCell::new(alloc, A, true)?)?;
-    trial.cells.push(joining(alloc, B, 1, A)?)?;
+    trial.add(NodeCell::new(alloc, A, true)?)?;
+    trial.add(joining(alloc, B, 1, A)?)?;
     trial.settle(alloc)?;
-    trial.cells.push(joining(alloc, C, 2, B)?)?;
+    trial.add(joining(alloc, C, 2, B)?)?;
     trial.settle(alloc)
 }
 
@@ -115,7 +155,10 @@ fn take(
     alloc: Global,
     receiver: Id,
     stamp: u64,
-) -> Result<Result<(), CellFault>, Fail> {
+) -> Result<Result<(), CellFault>, Fail>
+    requires { cell.old.carried ≡ None }
+    ensures { cell.new.carried ≡ None }
+{
     let envelope = Envelope {
         sender: B,
         receiver,
@@ -127,7 +170,10 @@ fn take(
 }
 
 /// Noise, and two messages, of which the second was sent before the first came.
-fn take_three(cell: &mut NodeCell, alloc: Global) -> Result<(), Fail> {
+fn take_three(cell: &mut NodeCell, alloc: Global) -> Result<(), Fail>
+    requires { cell.old.carried ≡ None }
+    ensures { cell.new.carried ≡ None }
+{
     cell.handle(alloc, b"")?;
     take(cell, alloc, A, 9)??;
     Ok(take(cell, alloc, A, 3)??)
@@ -145,7 +191,9 @@ fn stamps_follow_the_greater(rt: HostRuntime) -> Result<(), Fail> {
 }
 
 /// A message to another node, and bytes that are no frame.
-fn take_noise(cell: &mut NodeCell, alloc: Global) -> Result<(), Fail> {
+fn take_noise(cell: &mut NodeCell, alloc: Global) -> Result<(), Fail>
+    requires { cell.old.carried ≡ None }
+{
     take(cell, alloc, C, 9)??;
     Ok(cell.handle(alloc, b"\x01\x12")?)
 }
@@ -165,7 +213,9 @@ fn is_spent(handled: Result<(), CellFault>) -> bool {
 }
 
 /// A message with the last stamp, one with the stamp before it, and noise: whether just the second is taken in.
-fn takes_the_second(cell: &mut NodeCell, alloc: Global) -> Result<bool, Fail> {
+fn takes_the_second(cell: &mut NodeCell, alloc: Global) -> Result<bool, Fail>
+    requires { cell.old.carried ≡ None }
+{
     let last = take(cell, alloc, A, u64::MAX)?;
     let before = take(cell, alloc, A, u64::MAX - 1)?;
     let noise = cell.handle(alloc, b"");

@@ -10,6 +10,7 @@ invariant_of-self-2 c =
       is_founder = c.self.inside.is_founder;
       history = plain_history c.self.inside.history.items;
       unsent = c.self.inside.unsent.items;
+      carried = c.self.inside.carried;
     } in
     cell_hands_out c.self.inside.node c.self.inside.stamp cell c.in_ok-receiver.field-0 c.pop_front.new.self.items c.self.invariant
     c.in_ok-receiver.ensures.items

@@ -46,11 +46,12 @@ same : (c : goal.After-self-1) → (record {
   is_founder = c.self.inside.is_founder;
   history = plain_history c.push_reserved.new.self.items;
   unsent = c.append.new.unsent.items;
+  carried = c.self.inside.carried;
 }) ≡ with_input c.args.self.now (plain_input_of c.args.input)
 same c =
     let history : List CellEntry = plain_history c.push_reserved.new.self.items in
     let unsent : List Addressed = c.append.new.unsent.items in
-    ap (λ (x : ℕ). record { node = x; is_founder = c.self.inside.is_founder; history = history; unsent = unsent })
+    ap (λ (x : ℕ). record { node = x; is_founder = c.self.inside.is_founder; history = history; unsent = unsent; carried = c.self.inside.carried })
     (c.commit.ensures.me ∙ c.plan.ensures.me)
     ∙ ap (λ (q : Cell). record q { history = history; unsent = unsent }) c.self.view_is
     ∙ ap (λ (es : List CellEntry). record c.args.self.now { history = es; unsent = unsent }) (longer c)
@@ -73,7 +74,7 @@ invariant_of-self-2 c =
     let i : CellInput = plain_input_of c.args.input in
     subst (λ (q : Cell). IsCell c.commit.new.self c.in_ok-stamp.stamp q) (sym (same c))
     (subst (λ (n : ℕ). IsCell c.commit.new.self n (with_input r i)) (sym c.in_ok-stamp.ensures.ok)
-    (cell_grows c.self.inside.node c.commit.new.self c.self.inside.stamp r i (kept c) c.requires.addressed c.requires.numbered
+    (cell_grows c.self.inside.node c.commit.new.self c.self.inside.stamp r i (kept c) c.requires.addressed c.requires.numbered c.requires.beside
     (planned c).spelled (stands_after c)))
 
 pub returns-clause-ok : goal.returns-clause-ok
