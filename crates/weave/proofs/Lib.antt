@@ -8,3 +8,7 @@ pub mod Wanting
 pub mod Strays
 pub mod Unreads
 pub mod Woven
+pub mod Passing
+pub mod Passages
+pub mod Relaying
+pub mod Taking

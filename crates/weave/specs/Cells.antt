@@ -1,16 +1,11 @@
 -- Cells that are woven, as histories from a setting.
-use Rattle.std.specs.Prelude.{◌≡◌, ◌==◌, true, List, map, All, Contains}
+use Rattle.std.specs.Prelude.{◌≡◌, ◌==◌, true, None, List, All, Contains}
 use Rattle.ring_math.specs.Names.{Id}
 use Rattle.overlay_rules.specs.Record.{Setting, all_differ}
-use Rattle.weave_laws.specs.Cells.{History, IsCellHistory, nodes_of}
+use Rattle.weave_laws.specs.Cells.{IsCellHistory, nodes_of}
 use Rattle.weave_laws.specs.Numbers.{NumbersRise, ShareNoNumber}
 use Rattle.node_cell.specs.Cell.{Cell}
-
-abbrev pub kept_history : Cell → History
-kept_history c = record { node = c.node; entries = c.history }
-
-abbrev pub histories : List Cell → List History
-histories cells = map kept_history cells
+pub use Rattle.node_cell.specs.Histories.{kept_history, histories}
 
 abbrev pub nodes : List Cell → List Id
 nodes cells = nodes_of (histories cells)
@@ -28,6 +23,10 @@ pub record AreOneRing (cells : List Cell) (founder : Id) : Type 0 where
 -- the nodes of the cells, and the founder
 abbrev pub setting_of : List Cell → Id → Setting
 setting_of cells founder = record { nodes = nodes cells; founder = founder }
+
+-- a cell without passes to mailboxes
+abbrev pub HasNoPasses : Cell → Type 0
+HasNoPasses c = c.carried ≡ None
 
 -- what a cell keeps by its type
 pub record IsLawful (c : Cell) : Type 0 where

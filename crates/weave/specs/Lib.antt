@@ -5,3 +5,6 @@ pub mod Stray
 pub mod Stops
 pub mod Unread
 pub mod Wanted
+pub mod Through
+pub mod Alike
+pub mod Relayed

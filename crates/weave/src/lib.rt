@@ -6,12 +6,18 @@
 
 mod acts;
 mod fault;
+mod relay;
 mod search;
+mod through;
 mod untaken;
 mod waiting;
 mod weaving;
 
 pub use fault::WeaveFault;
+pub use through::through_cells;
 pub use untaken::unread;
 pub use waiting::Unread;
 pub use weaving::weave;
+
+#[cfg(test)]
+mod tests;

@@ -65,7 +65,7 @@ addressed_each : (x : Id) (s : State) (es : List CellEntry) → AreSteps x s es 
 addressed_each x s [] h = tt
 addressed_each x s (e ∷ es) h = (h.0.addressed, addressed_each x (stepped s e) es h.1)
 
-all_addressed : (g : Setting) (hs : List History) (r : Record) → AreHistories g hs → (w : IsWoven hs r) →
+pub all_addressed : (g : Setting) (hs : List History) (r : Record) → AreHistories g hs → (w : IsWoven hs r) →
     Each (λ (a : Act). IsFor a.node a.entry.input) w.acts
 all_addressed g hs r h w =
     Each-weaker (λ (a : Act). StandsIn hs a.node a.entry) (λ (a : Act). IsFor a.node a.entry.input) w.acts

@@ -5,3 +5,4 @@ pub mod Histories
 pub mod Woven
 pub mod AtNode
 pub mod Laws
+pub mod Answered
