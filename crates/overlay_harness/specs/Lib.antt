@@ -1,0 +1,12 @@
+pub mod Stages
+pub mod Inputs
+pub mod Clauses
+pub mod Run
+pub mod Ran
+pub mod Once
+pub mod Fault
+pub mod Shown
+pub mod Work
+pub mod Hand
+pub mod Whole
+pub mod Time
