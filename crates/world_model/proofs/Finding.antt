@@ -46,6 +46,7 @@ all_differ-read (x ∷ xs) (suc j) (suc k) h a b = all_differ-read xs j k (and_r
 -- the places of the first identifiers
 pub record FindsTo (places : BTreeMap ℕ ℕ) (ids : List ℕ) (n : ℕ) : Type 0 where
   pub at : (k : ℕ) → k < n → get nat_cmp places (slice_index ids k) ≡ Some k
+  pub only : (x k : ℕ) → get nat_cmp places x ≡ Some k → (k < n) × (slice_index ids k ≡ x)
 
 pub FindsTo-more : (m m' : BTreeMap ℕ ℕ) (ids : List ℕ) (n : ℕ) → all_differ ids ≡ true → n < length ids → FindsTo m ids n →
     ((q : ℕ) → get nat_cmp m' q ≡ cond (is_at (nat_cmp (slice_index ids n)) q) (Some n) (get nat_cmp m q)) → FindsTo m' ids (n + 1)
@@ -57,6 +58,14 @@ FindsTo-more m m' ids n d l f u = record {
       by_test {P = cond (x == y) (Some n) (get nat_cmp m y) ≡ Some k} (x == y)
       (λ t. let e : x ≡ y = (Decides-eqb x y).0 t in rw t (ap Some (same k h e)))
       (λ t. let ne : k < n = lower k h t in rw t (f.at k ne));
+  only = λ y k e.
+      let x = slice_index ids n in
+      let found : cond (x == y) (Some n) (get nat_cmp m y) ≡ Some k =
+      sym (u y ∙ ap (λ b. cond b (Some n) (get nat_cmp m y)) (unsigned_tied x y)) ∙ e in
+      by_test {P = (k < n + 1) × (slice_index ids k ≡ y)} (x == y)
+      (λ t. let last : Some n ≡ Some k = sym (ap (λ b. cond b (Some n) (get nat_cmp m y)) t) ∙ found in
+      let is : n ≡ k = cc in (omega arith, ap (slice_index ids) (sym is) ∙ (Decides-eqb x y).0 t))
+      (λ t. let before = f.only y k (sym (ap (λ b. cond b (Some n) (get nat_cmp m y)) t) ∙ found) in (omega (arith, before.0), before.1));
 } where
   same : (k : ℕ) → k < n + 1 → slice_index ids n ≡ slice_index ids k → n ≡ k
   same k h e = by_test {P = n ≡ k} (n == k) (λ t. (Decides-eqb n k).0 t)

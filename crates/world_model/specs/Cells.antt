@@ -24,9 +24,10 @@ pub record AllStand (nodes : List Node) (states : Id → State) : Type 0 where
 pub record FitsAt (nodes : List Node) (place : ℕ) (c : Change) : Type 0 where
   pub fits : (d : Node) → Fits (slice_index_or nodes place d) c
 
--- the map has the place of each identifier
+-- the map has the place of each identifier, and no others
 pub record Finds (places : BTreeMap Id ℕ) (ids : List Id) : Type 0 where
   pub at : (k : ℕ) → k < length ids → get nat_cmp places (slice_index ids k) ≡ Some k
+  pub only : (x : Id) (k : ℕ) → get nat_cmp places x ≡ Some k → (k < length ids) × (slice_index ids k ≡ x)
 
 -- no two places have one identifier
 pub record AreDifferent (nodes : List Node) : Type 0 where

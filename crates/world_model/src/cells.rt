@@ -1,8 +1,8 @@
-//! The nodes of a world, each to be found by its identifier. All that this crate asks of node_core is asked here.
+//! Nodes, each to be found by its identifier. All that this crate asks of node_core is asked here.
 
-ghost use Rattle.std.specs.Prelude.{◌≡◌, ◌==◌, ◌<◌, ℕ, true, IfOk, Contains, length, slice_index, vec_len};
+ghost use Rattle.std.specs.Prelude.{◌≡◌, ◌==◌, ◌<◌, ℕ, true, IfOk, IfSome, IfNone, Contains, count_by, length, slice_index, vec_len};
 ghost use Rattle.coverage.specs.declared.Hop.{Hop as PlainHop};
-ghost use Rattle.overlay_rules.specs.State.{State, start};
+ghost use Rattle.overlay_rules.specs.State.{State, is_ready, start};
 ghost use Rattle.overlay_rules.specs.Step.{step};
 ghost use Rattle.overlay_rules.specs.Record.{IsSetting, all_differ, world_at_start, state_at};
 ghost use Rattle.node_parts.specs.Change.{changed};
@@ -22,7 +22,7 @@ use std::marker::Model;
 
 /// Nodes with different identifiers, in the order of their setting.
 #[derive(Drop)]
-pub(crate) struct Cells {
+pub struct Cells {
     nodes: Vec<Node>,
     /// The place of each identifier.
     places: BTreeMap<u128, usize>,
@@ -42,7 +42,7 @@ impl Model for Cells {
 
 impl Cells {
     /// The nodes as they begin: the founder is ready, the others are to join.
-    pub(crate) fn new(alloc: Global, ids: &[Id], founder: Id) -> Result<Cells, OutOfMemory>
+    pub fn new(alloc: Global, ids: &[Id], founder: Id) -> Result<Cells, OutOfMemory>
         requires { IsSetting (record { nodes = ids.now; founder = founder }) }
         ensures ids { IfOk result (λ nodes. ids_of nodes ≡ ids.now) }
         ensures stand { IfOk result (λ nodes. AllStand nodes (world_at_start (record { nodes = ids.now; founder = founder })).states) }
@@ -53,7 +53,7 @@ impl Cells {
     }
 
     /// Where the node of an identifier stands.
-    pub(crate) fn place(&self, id: Id) -> usize
+    pub fn place(&self, id: Id) -> usize
         requires { Contains (ids_of self.now) id }
         ensures within { result < length (ids_of self.now) }
         ensures id { slice_index (ids_of self.now) result ≡ id }
@@ -61,8 +61,23 @@ impl Cells {
         *self.places.get(&id.0).unwrap()
     }
 
+    /// Where the node of an identifier stands, None exactly where there is none.
+    pub fn find(&self, id: Id) -> Option<usize>
+        ensures some { IfSome result (λ place. (place < length (ids_of self.now)) × (slice_index (ids_of self.now) place ≡ id)) }
+        ensures none { IfNone result (¬ Contains (ids_of self.now) id) }
+    {
+        self.places.get(&id.0).copied()
+    }
+
+    /// How many nodes are ready.
+    pub fn ready(&self) -> usize
+        ensures { (states : ℕ → State) → AllStand self.now states → result ≡ count_by (λ x. is_ready (states x).phase) (ids_of self.now) }
+    {
+        ready_among(&self.nodes)
+    }
+
     /// The identifier of the node at a place.
-    pub(crate) fn id(&self, place: usize) -> Id
+    pub fn id(&self, place: usize) -> Id
         requires { place < length (ids_of self.now) }
         ensures { result ≡ id_at self.now place }
     {
@@ -71,7 +86,7 @@ impl Cells {
     }
 
     /// The next hop of a key at a node, None exactly where it is not ready.
-    pub(crate) fn next_hop(&self, place: usize, key: Id) -> Option<Hop>
+    pub fn next_hop(&self, place: usize, key: Id) -> Option<Hop>
         requires { place < length (ids_of self.now) }
         ensures { (states : ℕ → State) → AllStand self.now states → result ≡ hop_of (states (id_at self.now place)) key }
     {
@@ -80,7 +95,7 @@ impl Cells {
     }
 
     /// All of a step that can be refused. The nodes stand for what they stood for.
-    pub(crate) fn prepare(
+    pub fn prepare(
         &mut self,
         place: usize,
         alloc: Global,
@@ -97,8 +112,8 @@ impl Cells {
         prepare_at(&mut self.nodes, place, alloc, input)
     }
 
-    /// The change comes to pass, which takes no memory.
-    pub(crate) fn commit(&mut self, place: usize, change: Change)
+    /// The change comes to pass, which takes no memory. It is to be the one that `prepare` answered last at this place.
+    pub fn commit(&mut self, place: usize, change: Change)
         requires within { place < length (ids_of self.old) }
         requires fits { FitsAt self.old place change }
         ensures ids { ids_of self.new ≡ ids_of self.old }
@@ -107,6 +122,20 @@ impl Cells {
     {
         commit_at(&mut self.nodes, place, change);
     }
+}
+
+/// How many of these nodes are ready.
+fn ready_among(nodes: &[Node]) -> usize
+    ensures { (states : ℕ → State) → AllStand nodes.now states → result ≡ count_by (λ x. is_ready (states x).phase) (ids_of nodes.now) }
+{
+    let mut ready: usize = 0;
+    for place in 0..nodes.len() {
+        let node = &nodes[place];
+        if node.is_ready() {
+            ready += 1;
+        }
+    }
+    ready
 }
 
 /// The nodes as they begin, in this order.

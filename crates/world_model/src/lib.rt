@@ -9,6 +9,7 @@ mod cells;
 mod index;
 mod world;
 
+pub use cells::Cells;
 pub use overlay_rules::{Entries, Entry, EntryRef, Event, EventRef, Record};
 pub use world::World;
 

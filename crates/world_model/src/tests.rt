@@ -9,7 +9,7 @@ ghost use Rattle.step_facts.specs.Receivers.{ViaIs};
 ghost use Rattle.world_model.specs.Numbers.{IsNewest, IsNumberedBelow};
 ghost use Rattle.world_model.specs.Recorded.{setting_of};
 
-use crate::{Entries, EventRef, World};
+use crate::{Cells, Entries, EventRef, World};
 use coverage::Hop;
 use ring_math::{Bytes, FileId, Id};
 use std::alloc::Global;
@@ -484,5 +484,13 @@ fn noise_is_one_entry(rt: HostRuntime) -> Result<(), Fail> {
     assert!(rt; trial.world.sent_len() == 1 && trial.world.oldest_undelivered() == Some(0));
     let record = trial.world.finish(3);
     assert!(rt; record.entries.len() == 2 && record.skipped == 3);
+    Ok(())
+}
+
+#[test]
+fn nodes_are_found(rt: HostRuntime) -> Result<(), Fail> {
+    let cells = Cells::new(rt.alloc(), &[A, C], A)?;
+    assert!(rt; cells.find(C) == Some(1) && cells.find(B).is_none());
+    assert!(rt; cells.ready() == 1);
     Ok(())
 }
