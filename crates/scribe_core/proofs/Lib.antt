@@ -1,0 +1,5 @@
+mod Keys
+pub mod Facts
+pub mod Holding
+pub mod Overlay
+pub mod Kept

@@ -1,0 +1,5 @@
+pub mod Parts
+pub mod Tree
+pub mod Step
+pub mod Record
+pub mod Laws
