@@ -49,7 +49,8 @@ mapped_from f (x ∷ xs) y has = elim (contains-cases (f x) (map f xs) y has) [
   | inr behind ↦ let r = mapped_from f xs y behind in (r.0, contains-behind x xs r.0 r.1, r.2)
 ]
 
-flat_from : {A B : Type 0} (f : A → List B) (xs : List A) (y : B) → Contains (flat_map f xs) y → (x : A) × Contains xs x × Contains (f x) y
+-- what stands in such a list is of one of those that it is made of
+pub flat_from : {A B : Type 0} (f : A → List B) (xs : List A) (y : B) → Contains (flat_map f xs) y → (x : A) × Contains xs x × Contains (f x) y
 flat_from f [] y has = absurd (none_there y has)
 flat_from f (x ∷ xs) y has = elim (Contains-append_cases (f x) (flat_map f xs) y has) [
   | inl here ↦ (x, contains-here x xs, here)

@@ -6,8 +6,11 @@ use Rattle.overlay_rules.specs.State.{State, start}
 use Rattle.wire_codec.specs.Spelling.{spelling}
 use Rattle.weave_laws.specs.Cells.{CellInput, CellEntry, replay, last_stamp}
 use Rattle.weave_laws.specs.Given.{next_entry}
+use Rattle.node_parts.specs.declared.node.Node.{Node}
 use Rattle.node_cell.specs.declared.frames.Addressed.{Addressed}
 use Rattle.node_cell.specs.declared.carried.Carried.{Carried}
+use Rattle.node_cell.specs.declared.entry.CellEntry.{CellEntry as CodeEntry}
+use Rattle.node_cell.specs.Entries.{plain_history}
 
 pub record Cell : Type 0 where
   pub node : Id
@@ -15,6 +18,11 @@ pub record Cell : Type 0 where
   pub history : List CellEntry
   pub unsent : List Addressed
   pub carried : Option Carried
+
+-- of what the code keeps
+abbrev pub cell_seen : Node → Bool → List CodeEntry → List Addressed → Option Carried → Cell
+cell_seen node founder history unsent carried =
+    record { node = node.me; is_founder = founder; history = plain_history history; unsent = unsent; carried = carried }
 
 -- nothing came yet
 abbrev pub empty_cell : Id → Bool → Cell

@@ -37,15 +37,14 @@ pub struct NodeCell {
 }
 
 impl Model for NodeCell {
-    ghost use Rattle.node_cell.specs.Cell.{Cell};
-    ghost use Rattle.node_cell.specs.Entries.{plain_history};
+    ghost use Rattle.node_cell.specs.Cell.{Cell, cell_seen};
     ghost use Rattle.node_cell.specs.Kept.{IsCell};
 
     ghost Value = { Cell };
 
-    ghost view = { λ a. record { node = a.node.me; is_founder = a.is_founder; history = plain_history a.history.items; unsent = a.unsent.items; carried = a.carried } };
+    ghost view = { λ a. cell_seen a.node a.is_founder a.history.items a.unsent.items a.carried };
 
-    ghost invariant = { λ a. IsCell a.node a.stamp (record { node = a.node.me; is_founder = a.is_founder; history = plain_history a.history.items; unsent = a.unsent.items; carried = a.carried }) };
+    ghost invariant = { λ a. IsCell a.node a.stamp (cell_seen a.node a.is_founder a.history.items a.unsent.items a.carried) };
 }
 
 impl NodeCell {

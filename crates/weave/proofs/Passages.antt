@@ -1,12 +1,10 @@
--- After the entries of a legal record: the cells' histories, in which no envelope is stray and no number stands twice, and that
+-- After the entries of a legal record: the cells' histories, in which all that came was sent and no number stands twice, and that
 -- the record has at each node what they have.
 use Rattle.std.proofs.Common.{◌≡◌, ◌≤◌, ◌+◌, ◌==◌, ◌⊎◌, inl, inr, ℕ, zero, suc, true, false, Some, List, [], ◌∷◌, ◌++◌, map, take, filter, slice_get}
 use Rattle.std.proofs.Common.{length, Contains, All, refl, sym, subst, ap, ◌∙◌, arith}
 use Rattle.std.proofs.lemmas.Bool.{cases_Bool, cond-true, cond-false}
 use Rattle.std.proofs.lemmas.Bool.Decides.{Decides-eqb}
 use Rattle.std.proofs.lemmas.List.{length-take-le, take_more}
-use Rattle.std.proofs.lemmas.List.Concat.{flat_map-cons}
-use Rattle.std.proofs.lemmas.List.Elements.{Contains-append_cases}
 use Rattle.std.proofs.lemmas.Option.{get_or_from_slice_get, slice_get_within}
 use Rattle.std.proofs.lemmas.Slice.Zip.{AllZip-long}
 use Rattle.std.specs.List.{AllZip}
@@ -18,15 +16,16 @@ use Rattle.overlay_rules.specs.declared.entry.Record.{Record}
 use Rattle.overlay_rules.specs.Record.{Setting, World, Legal, LegalFrom, sent_in, visit, after, run, world_at_start, world_after, unstamped}
 use Rattle.overlay_rules.proofs.Each.{Each, Each-all, Each-contains, Each-from_all, Each-itself, Each-map, Each-slice_get, Each-weaker}
 use Rattle.overlay_rules.proofs.Histories.{follows_at, past_after}
+use Rattle.node_cell.proofs.Gathered.{flat_from}
+use Rattle.weave_laws.specs.Answered.{AllSent, IsSentIn}
 use Rattle.weave_laws.specs.AtNode.{IsPartOf, is_at, entries_at}
 use Rattle.weave_laws.specs.Cells.{CellInput, CellEntry, History, Command, Comes, Noise, IsFor, input_of}
 use Rattle.weave_laws.specs.Numbers.{ShareNoNumber}
 use Rattle.weave_laws.specs.Woven.{Act, IsEntryOf, IsEventOf, part}
 use Rattle.weave_laws.proofs.Interleaved.{part-here, part-there, visited}
 use Rattle.weave.specs.Alike.{IsAlike, AreAlike, AreAlikeAt}
-use Rattle.weave.specs.Placed.{StandsAt, sent_by}
+use Rattle.weave.specs.Placed.{sent_by}
 use Rattle.weave.specs.Stops.{IsAnswered}
-use Rattle.weave.specs.Stray.{IsSentByNone, IsStray}
 use Rattle.weave.specs.Through.{arrival, act_next, with_arrival, through, history_by}
 use Rattle.weave.proofs.Passing.{HasPassed, IsNext, Matches, brings_is, next, part_each, passed-push, sends}
 use Rattle.weave.proofs.Placing.{later}
@@ -69,12 +68,6 @@ through-push g acts (d ∷ es) e = through-push g (with_arrival g acts (arrival 
 take-push : (es : List Entry) (i : ℕ) (e : Entry) → slice_get es i ≡ Some e → take (i + 1) es ≡ take i es ++ e ∷ []
 take-push es i e h =
     take_more es i e (slice_get_within es i e h) ∙ ap (λ (d : Entry). take i es ++ d ∷ []) (get_or_from_slice_get es i e e h)
-
-pub take_all : {A : Type 0} (xs : List A) (i : ℕ) → length xs ≤ i → take i xs ≡ xs
-take_all [] zero le = refl
-take_all [] (suc i) le = refl
-take_all (x ∷ xs) zero le = absurd (omega arith)
-take_all (x ∷ xs) (suc i) le = ap (λ ys. x ∷ ys) (take_all xs i (omega arith))
 
 -- the next entry
 pub record ComesNext (g : Setting) (es : List Entry) (i : ℕ) (e : Entry) : Type 0 where
@@ -142,38 +135,22 @@ module _ (g : Setting) (w : World) (acts : List Act) (h : HasPassed g w acts) wh
         (of_history k b.entry in_k b.stands) a.is b.is;
   }
 
-  -- ---- no envelope is stray
+  -- ---- what came to nodes was sent
 
-  sent_in_none : (bs : List Act) (v : Envelope) → Each (λ (b : Act). Contains b.entry.sent v → ⊥) bs → Contains (sent_by bs) v → ⊥
-  sent_in_none [] v none (k, lt, is) = omega arith
-  sent_in_none (b ∷ bs) v none c =
-      elim (Contains-append_cases b.entry.sent (sent_by bs) v (subst (λ vs. Contains vs v) (flat_map-cons sends b bs) c)) [
-        | inl here ↦ none.0 here
-        | inr there ↦ sent_in_none bs v none.1 there
-      ]
-
-  none_sends : (v : Envelope) → IsSentByNone hs v → (a : Act) → Contains acts a → Contains a.entry.sent v → ⊥
-  none_sends v none a c =
-      let member = Each-contains (λ (b : Act). Contains g.nodes b.node) acts a h.members c in
-      Each-contains (λ (e : CellEntry). Contains e.sent v → ⊥) (part a.node acts) a.entry
-      (Each-from_all (λ (e : CellEntry). Contains e.sent v → ⊥) (part a.node acts)
-      (Each-contains (λ (k : History). All (λ (e : CellEntry). Contains e.sent v → ⊥) k.entries) hs (history_by acts a.node)
-      (Each-from_all (λ (k : History). All (λ (e : CellEntry). Contains e.sent v → ⊥) k.entries) hs none)
-      (has_history g.nodes a.node member))) (in_part a acts c)
-
-  pub no_stray : (x : Id) (place : ℕ) (v : Envelope) → IsStray hs x place v → ⊥
-  no_stray x place v s =
-      sent_in_none acts v (Each-weaker (Contains acts) (λ (b : Act). Contains b.entry.sent v → ⊥) acts (none_sends v s.unsent) (Each-itself acts)) sent where
-        stands : StandsAt hs x place s.entry
-        stands = s.stands
-
-        taken : Contains acts (act stands.history.node s.entry)
-        taken = of_history stands.history s.entry stands.among
-            (Each-slice_get (Contains stands.history.entries) stands.history.entries place s.entry (Each-itself stands.history.entries) stands.there)
-
-        sent : Contains (sent_by acts) v
-        sent = subst (IsAnswered (sent_by acts)) s.takes
-            (Each-contains (λ (b : Act). IsAnswered (sent_by acts) b.entry.input) acts (act stands.history.node s.entry) h.answered taken)
+  pub all_sent : AllSent hs
+  all_sent = record { sent = sent_somewhere } where
+    sent_somewhere : (k : History) (e : CellEntry) (v : Envelope) → Contains hs k → Contains k.entries e → e.input ≡ Comes v → IsSentIn hs v
+    sent_somewhere k e v among there takes =
+        let answered : Contains (sent_by acts) v = subst (IsAnswered (sent_by acts)) takes
+            (Each-contains (λ (b : Act). IsAnswered (sent_by acts) b.entry.input) acts (act k.node e) h.answered (of_history k e among there)) in
+        let from = flat_from sends acts v answered in
+        record {
+          history = history_by acts from.0.node;
+          among = has_history g.nodes from.0.node (Each-contains (λ (b : Act). Contains g.nodes b.node) acts from.0 h.members from.1);
+          entry = from.0.entry;
+          there = in_part from.0 acts from.1;
+          sent = from.2;
+        }
 
 -- ---- the same at each node
 

@@ -4,7 +4,7 @@ use Rattle.std.proofs.Common.{length, Contains, All, refl, sym, subst, ap, ◌�
 use Rattle.std.proofs.Math.ListN.{set}
 use Rattle.std.proofs.lemmas.Bool.{and_parts, ne_eqb}
 use Rattle.std.proofs.lemmas.Bool.Decides.{Decides-eqb}
-use Rattle.std.proofs.lemmas.List.{map-append}
+use Rattle.std.proofs.lemmas.List.{map-append, take_all}
 use Rattle.std.proofs.lemmas.List.Elements.{All-push, All-set}
 use Rattle.ring_math.specs.Names.{Id}
 use Rattle.ring_math.specs.Sides.{is_in}
@@ -17,6 +17,7 @@ use Rattle.overlay_rules.specs.Record.{IsSetting, Legal, Setting, World, all_dif
 use Rattle.overlay_rules.proofs.Histories.{past_of_run}
 use Rattle.overlay_rules.proofs.Each.{Each, Each-all, Each-from_all, Each-slice_get, Each-weaker}
 use Rattle.weave_laws.specs.AtNode.{IsPartOf}
+use Rattle.weave_laws.specs.Answered.{AllSent}
 use Rattle.weave_laws.specs.Cells.{CellInput, CellEntry, History, Command, Comes, Noise, IsFor, input_stamp, replay, last_stamp, nodes_of}
 use Rattle.weave_laws.specs.Given.{next_entry}
 use Rattle.weave_laws.specs.Numbers.{IsNumberedAfter, ShareNoNumber}
@@ -27,11 +28,10 @@ use Rattle.weave.specs.declared.relay.Letter.{Letter}
 use Rattle.weave.specs.Cells.{AreOneRing, HasNoPasses, histories, kept_history, nodes, setting_of}
 use Rattle.weave.specs.Placed.{sent_by}
 use Rattle.weave.specs.Alike.{AreAlike}
-use Rattle.weave.specs.Stray.{IsStray}
 use Rattle.weave.specs.Through.{Arrival, act_next, history_by, histories_through, through}
 use Rattle.weave.specs.Relayed.{Hold, IsLetter, AreLetters, Kept, CanTake, CanTakeFor, CanHappen, Happened, Relayed, TookAt, TookFor}
 use Rattle.weave.proofs.Passing.{Brings, HasPassed, IsNewer, brings_for, brings_stamp, last_stamp_below, part_each, part-push, part-push_other, sent_by-push}
-use Rattle.weave.proofs.Passages.{ComesNext, acts_after, are_alike, no_stray, passed_after, share_no_number, take_all}
+use Rattle.weave.proofs.Passages.{ComesNext, acts_after, all_sent, are_alike, passed_after, share_no_number}
 
 -- ---- lists
 
@@ -283,7 +283,7 @@ one_ring g w bs cells set p h = record {
 module _ (g : Setting) (es : List Entry) (l : Legal g es) (cells : List Cell) (h : Hold g (through g [] es) cells) where
   passed_whole : HasPassed g (run (world_at_start g) es) (through g [] es)
   passed_whole =
-      subst (λ (fs : List Entry). HasPassed g (run (world_at_start g) fs) (through g [] fs)) (take_all es (length es) (omega arith))
+      subst (λ (fs : List Entry). HasPassed g (run (world_at_start g) fs) (through g [] fs)) (take_all (length es) es (omega arith))
       (passed_after g es (length es) l)
 
   pub whole_ring : IsSetting g → AreOneRing cells g.founder
@@ -302,10 +302,8 @@ module _ (g : Setting) (es : List Entry) (l : Legal g es) (cells : List Cell) (h
       (are_alike g (run (world_at_start g) es) (through g [] es) r passed_whole
       (subst (All (IsPartOf r.entries)) h.histories_are parts))
 
-  pub none_stray : (x : Id) (place : ℕ) (v : Envelope) → IsStray (histories cells) x place v → ⊥
-  none_stray x place v s =
-      no_stray g (run (world_at_start g) es) (through g [] es) passed_whole x place v
-      (subst (λ (hs : List History). IsStray hs x place v) h.histories_are s)
+  pub whole_sent : AllSent (histories cells)
+  whole_sent = subst AllSent (sym h.histories_are) (all_sent g (run (world_at_start g) es) (through g [] es) passed_whole)
 
 -- the cells of a setting's nodes as they begin
 pub hold-push : (nodes : List Id) (founder x : Id) (cells : List Cell) → Hold (record { nodes = nodes; founder = founder }) [] cells →

@@ -1,9 +1,10 @@
--- The first entry that takes in what was sent in no history.
-use Rattle.std.proofs.Common.{◌≢◌, ℕ, List, [], ◌∷◌, ◌++◌, Contains, All, refl, sym, subst, arith}
+-- The first entry that takes in what was sent in no history, and that there is none where all was sent.
+use Rattle.std.proofs.Common.{◌≡◌, ◌≢◌, ℕ, List, [], ◌∷◌, ◌++◌, Contains, All, refl, sym, subst, arith}
 use Rattle.std.proofs.lemmas.List.Concat.{flat_map-cons}
 use Rattle.ring_math.specs.Names.{Id}
 use Rattle.wire_msg.specs.Words.{Envelope, plain_envelope}
 use Rattle.overlay_rules.proofs.Each.{Each, Each-append, Each-all, Each-contains, Each-from_all, Each-weaker, Each-itself}
+use Rattle.weave_laws.specs.Answered.{AllSent, IsSentIn}
 use Rattle.weave_laws.specs.Cells.{CellEntry, History}
 use Rattle.weave_laws.specs.Woven.{Act, ComesBefore, IsWovenOrder}
 use Rattle.weave_laws.proofs.Parts.{StandsIn, stand_in}
@@ -13,7 +14,7 @@ use Rattle.weave.specs.Placed.{AreEntriesOf, IsEntryIn, Placed, StandsAt, acts_i
 use Rattle.weave.specs.Stops.{IsAnswered, StopsAt}
 use Rattle.weave.specs.Stray.{IsDueTo, IsSentByNone, IsStray}
 use Rattle.weave.proofs.Placing.{later}
-use Rattle.weave.proofs.Standing.{act, at_stop, before_stop, entry_in_order}
+use Rattle.weave.proofs.Standing.{act, at_stop, before_stop, contains_get, entry_in_order}
 
 -- ---- what was sent
 
@@ -96,3 +97,18 @@ first_stray hs ps o es (fault.Stray x place v) s = record { stray = stray; first
       before_stop ps s.before stop s.behind s.split hs o (λ (a : Act). IsAnswered (sent_by (acts_in ps)) a.entry.input) s.earlier y other t.entry t.stands
       (subst (λ z. ComesBefore (act y t.entry) (act z stop.act.entry)) (sym s.named.0.node) c) in
       none_sent hs (acts_in ps) o w t.unsent (subst (IsAnswered (sent_by (acts_in ps))) t.takes answered)
+
+-- where what came to nodes was sent, nothing is stray
+pub no_stray : (hs : List History) → AllSent hs → (x : Id) (place : ℕ) (v : Envelope) → IsStray hs x place v → ⊥
+no_stray hs all x place v s =
+    let history : History = s.stands.history in
+    let from : IsSentIn hs v = all.sent history s.entry v s.stands.among (contains_get history.entries place s.entry s.stands.there) s.takes in
+    Each-contains (λ (e : CellEntry). Contains e.sent v → ⊥) from.history.entries from.entry
+    (Each-from_all (λ (e : CellEntry). Contains e.sent v → ⊥) from.history.entries
+    (Each-contains (λ (h : History). All (λ (e : CellEntry). Contains e.sent v → ⊥) h.entries) hs from.history
+    (Each-from_all (λ (h : History). All (λ (e : CellEntry). Contains e.sent v → ⊥) h.entries) hs s.unsent) from.among)) from.there from.sent
+
+-- so the weaving of such histories wants for memory at most
+pub only_memory : (hs : List History) → AllSent hs → (f : WeaveFault) → IsDueTo hs f → f ≡ fault.OutOfMemory
+only_memory hs all fault.OutOfMemory d = refl
+only_memory hs all (fault.Stray x place v) d = absurd (no_stray hs all x place (plain_envelope v) d.stray)

@@ -1,4 +1,5 @@
 use Rattle.std.proofs.Common.{◌<◌, ◌≤◌, ℕ, [], List, length, subst, arith}
+use Rattle.std.proofs.lemmas.List.{take_all}
 use Rattle.overlay_rules.specs.declared.entry.Entry.{Entry}
 use Rattle.overlay_rules.specs.Record.{Setting}
 use Rattle.overlay_rules.specs.Seen.{entry_seen}
@@ -6,7 +7,7 @@ use Rattle.step_facts.specs.Setting.{setting}
 use Rattle.node_cell.specs.declared.fault.TheConstants.{LAST_STAMP}
 use Rattle.weave.specs.Relayed.{Hold}
 use Rattle.weave.specs.Through.{through}
-use Rattle.weave.proofs.Passages.{comes_next, take_all}
+use Rattle.weave.proofs.Passages.{comes_next}
 use Rattle.weave.proofs.Relaying.{HoldNext, can_happen, hold_next}
 use Rattle.weave.proofs.through.relayed.Goals as goal
 
@@ -47,5 +48,5 @@ returns c =
     let end = c.len-place-end.ensures in
     let test = c.loop-place-test.false in
     let whole : length es ≤ c.loop-place.place = omega arith in
-    subst (λ (fs : List Entry). Hold g (through g [] fs) c.loop-place.relay.cells.items) (take_all es c.loop-place.place whole)
+    subst (λ (fs : List Entry). Hold g (through g [] fs) c.loop-place.relay.cells.items) (take_all c.loop-place.place es whole)
     c.loop-place.invariant.hold

@@ -10,7 +10,8 @@ use Rattle.weave.specs.Relayed.{Hold}
 use Rattle.weave.specs.Stray.{IsDueTo}
 use Rattle.weave.specs.Through.{through}
 use Rattle.wire_msg.specs.Words.{plain_envelope}
-use Rattle.weave.proofs.Relaying.{nodes_are, none_stray, whole_alike, whole_legal, whole_ring, whole_woven}
+use Rattle.weave.proofs.Relaying.{nodes_are, whole_alike, whole_legal, whole_ring, whole_sent, whole_woven}
+use Rattle.weave.proofs.Strays.{no_stray}
 use Rattle.weave.proofs.through.through_cells.Goals as goal
 
 -- the cells that are woven hold what they were given
@@ -61,4 +62,5 @@ unreachable-requires c =
     let due : IsDueTo (histories cells) c.in-Err-Stray.field-0 = c.in-Err-Stray.ensures.due in
     let first : IsDueTo (histories cells) (fault.Stray c.in-Err-Stray.field-0-0 c.in-Err-Stray.field-0-1 c.in-Err-Stray.field-0-2) =
     subst (IsDueTo (histories cells)) c.in-Err-Stray.field-0-is due in
-    none_stray g es c.requires.legal cells h c.in-Err-Stray.field-0-0 c.in-Err-Stray.field-0-1 (plain_envelope c.in-Err-Stray.field-0-2) first.stray
+    no_stray (histories cells) (whole_sent g es c.requires.legal cells h) c.in-Err-Stray.field-0-0 c.in-Err-Stray.field-0-1
+    (plain_envelope c.in-Err-Stray.field-0-2) first.stray

@@ -2,9 +2,8 @@ use Rattle.std.proofs.Common.{◌≡◌, ◌∙◌, ◌∷◌, ℕ, List, ap, su
 use Rattle.std.proofs.lemmas.Option.{slice_get_within}
 use Rattle.node_cell.specs.declared.carried.Carried.{Carried}
 use Rattle.node_cell.specs.declared.frames.Addressed.{Addressed}
-use Rattle.node_cell.specs.Cell.{Cell}
+use Rattle.node_cell.specs.Cell.{Cell, cell_seen}
 use Rattle.node_cell.specs.Carried.{KeepsPasses, KeepsCarried}
-use Rattle.node_cell.specs.Entries.{plain_history}
 use Rattle.node_cell.specs.Equipped.{AreOwnOf, CarriesOf, HasPassesOf}
 use Rattle.node_cell.specs.Kept.{AreUnsent}
 use Rattle.node_cell.proofs.Carrying.{keeps-counted}
@@ -17,13 +16,8 @@ put-requires-clause-place g c = slice_get_within c.args.post.now.nodes c.in-Some
 
 pub invariant_of-self-in_default-place : goal.invariant_of-self-in_default-place
 invariant_of-self-in_default-place g c =
-    let cell : Cell = record {
-      node = c.self.inside.node.me;
-      is_founder = c.self.inside.is_founder;
-      history = plain_history c.self.inside.history.items;
-      unsent = c.self.inside.unsent.items;
-      carried = c.self.inside.carried;
-    } in
+    let cell : Cell =
+    cell_seen c.self.inside.node c.self.inside.is_founder c.self.inside.history.items c.self.inside.unsent.items c.self.inside.carried in
     let old : Carried = c.in-Some.carried in
     let kept : KeepsPasses cell.node cell.history old = subst (KeepsCarried cell.node cell.history) c.in-Some.is c.self.invariant.carried in
     cell_posts c.self.inside.node c.self.inside.stamp cell c.in-Some-pop_front.first c.pop_front.new.self.items (record old { copies = 0 })
@@ -31,13 +25,8 @@ invariant_of-self-in_default-place g c =
 
 pub invariant_of-self-in-Ok : goal.invariant_of-self-in-Ok
 invariant_of-self-in-Ok g c =
-    let cell : Cell = record {
-      node = c.self.inside.node.me;
-      is_founder = c.self.inside.is_founder;
-      history = plain_history c.self.inside.history.items;
-      unsent = c.self.inside.unsent.items;
-      carried = c.self.inside.carried;
-    } in
+    let cell : Cell =
+    cell_seen c.self.inside.node c.self.inside.is_founder c.self.inside.history.items c.self.inside.unsent.items c.self.inside.carried in
     let old : Carried = c.in-Some.carried in
     let first : Addressed = c.in-Some-pop_front.first in
     let rest : List Addressed = c.pop_front.new.self.items in
@@ -52,13 +41,8 @@ invariant_of-self-in-Ok g c =
 
 pub invariant_of-self-in-Err : goal.invariant_of-self-in-Err
 invariant_of-self-in-Err g c =
-    let cell : Cell = record {
-      node = c.self.inside.node.me;
-      is_founder = c.self.inside.is_founder;
-      history = plain_history c.self.inside.history.items;
-      unsent = c.self.inside.unsent.items;
-      carried = c.self.inside.carried;
-    } in
+    let cell : Cell =
+    cell_seen c.self.inside.node c.self.inside.is_founder c.self.inside.history.items c.self.inside.unsent.items c.self.inside.carried in
     let old : Carried = c.in-Some.carried in
     let first : Addressed = c.in-Some-pop_front.first in
     let rest : List Addressed = c.pop_front.new.self.items in
@@ -76,13 +60,8 @@ invariant_of-self-in-Err g c =
 
 pub returns-in-Ok-clause-passes : goal.returns-in-Ok-clause-passes
 returns-in-Ok-clause-passes g c =
-    let cell : Cell = record {
-      node = c.self.inside.node.me;
-      is_founder = c.self.inside.is_founder;
-      history = plain_history c.self.inside.history.items;
-      unsent = c.self.inside.unsent.items;
-      carried = c.self.inside.carried;
-    } in
+    let cell : Cell =
+    cell_seen c.self.inside.node c.self.inside.is_founder c.self.inside.history.items c.self.inside.unsent.items c.self.inside.carried in
     let old : Carried = c.in-Some.carried in
     let first : Addressed = c.in-Some-pop_front.first in
     let of : CarriesOf c.args.post.now cell.node cell.carried = subst (HasPassesOf c.args.post.now) (sym c.self.view_is) c.requires.passes in
@@ -94,13 +73,8 @@ returns-in-Ok-clause-passes g c =
 
 pub returns-in-Err-clause-passes : goal.returns-in-Err-clause-passes
 returns-in-Err-clause-passes g c =
-    let cell : Cell = record {
-      node = c.self.inside.node.me;
-      is_founder = c.self.inside.is_founder;
-      history = plain_history c.self.inside.history.items;
-      unsent = c.self.inside.unsent.items;
-      carried = c.self.inside.carried;
-    } in
+    let cell : Cell =
+    cell_seen c.self.inside.node c.self.inside.is_founder c.self.inside.history.items c.self.inside.unsent.items c.self.inside.carried in
     let old : Carried = c.in-Some.carried in
     let first : Addressed = c.in-Some-pop_front.first in
     let of : CarriesOf c.args.post.now cell.node cell.carried = subst (HasPassesOf c.args.post.now) (sym c.self.view_is) c.requires.passes in

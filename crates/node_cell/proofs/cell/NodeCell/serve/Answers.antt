@@ -1,8 +1,7 @@
 use Rattle.std.proofs.Common.{◌≡◌, ◌∙◌, ℕ, Option, Some, None, List, subst, sym}
 use Rattle.node_cell.specs.declared.carried.Carried.{Carried}
-use Rattle.node_cell.specs.Cell.{Cell}
+use Rattle.node_cell.specs.Cell.{Cell, cell_seen}
 use Rattle.node_cell.specs.Carried.{KeepsPasses, KeepsCarried}
-use Rattle.node_cell.specs.Entries.{plain_history}
 use Rattle.node_cell.specs.Serving.{holding}
 use Rattle.node_cell.specs.Taken.{TookBytes}
 use Rattle.node_cell.proofs.Growing.{cell_carries}
@@ -11,20 +10,10 @@ use Rattle.node_cell.proofs.cell.NodeCell.serve.Goals as goal
 
 pub invariant_of-self-in-Ok-1 : goal.invariant_of-self-in-Ok-1
 invariant_of-self-in-Ok-1 g c =
-    let before : Cell = record {
-      node = c.self.inside.node.me;
-      is_founder = c.self.inside.is_founder;
-      history = plain_history c.self.inside.history.items;
-      unsent = c.self.inside.unsent.items;
-      carried = c.self.inside.carried;
-    } in
-    let after : Cell = record {
-      node = c.self-2.inside.node.me;
-      is_founder = c.self-2.inside.is_founder;
-      history = plain_history c.self-2.inside.history.items;
-      unsent = c.self-2.inside.unsent.items;
-      carried = c.self-2.inside.carried;
-    } in
+    let before : Cell =
+    cell_seen c.self.inside.node c.self.inside.is_founder c.self.inside.history.items c.self.inside.unsent.items c.self.inside.carried in
+    let after : Cell =
+    cell_seen c.self-2.inside.node c.self-2.inside.is_founder c.self-2.inside.history.items c.self-2.inside.unsent.items c.self-2.inside.carried in
     let old : Carried = c.in-Some.carried in
     let new : Carried = c.next_frame.new.self in
     let frame : List ℕ = c.in-Some-next_frame.frame in

@@ -5,7 +5,7 @@ use Rattle.weave_laws.specs.Cells.{CellInput, CellEntry, stepped}
 use Rattle.node_cell.specs.declared.entry.CellEntry.{CellEntry as CodeEntry}
 use Rattle.node_cell.specs.declared.frames.Addressed.{Addressed}
 use Rattle.node_cell.specs.Entries.{plain_entry, plain_history, plain_input_of}
-use Rattle.node_cell.specs.Cell.{Cell, state_of, entry_next, with_input}
+use Rattle.node_cell.specs.Cell.{Cell, cell_seen, state_of, entry_next, with_input}
 use Rattle.node_cell.specs.Kept.{IsCell, IsPlanned}
 use Rattle.node_cell.proofs.Growing.{cell_grows}
 use Rattle.node_cell.proofs.cell.NodeCell.take_in.Goals as goal
@@ -41,13 +41,9 @@ more_frames c =
     ∙ ap (λ (us : List Addressed). us ++ frames) (c.in_ok-reserve-2.ensures.items ∙ ap (λ (q : Cell). q.unsent) c.self.view_is)
     ∙ ap (λ (fs : List Addressed). r.unsent ++ fs) (planned c).frames
 
-same : (c : goal.After-self-1) → (record {
-  node = c.commit.new.self.me;
-  is_founder = c.self.inside.is_founder;
-  history = plain_history c.push_reserved.new.self.items;
-  unsent = c.append.new.unsent.items;
-  carried = c.self.inside.carried;
-}) ≡ with_input c.args.self.now (plain_input_of c.args.input)
+same : (c : goal.After-self-1) →
+    cell_seen c.commit.new.self c.self.inside.is_founder c.push_reserved.new.self.items c.append.new.unsent.items c.self.inside.carried
+    ≡ with_input c.args.self.now (plain_input_of c.args.input)
 same c =
     let history : List CellEntry = plain_history c.push_reserved.new.self.items in
     let unsent : List Addressed = c.append.new.unsent.items in
