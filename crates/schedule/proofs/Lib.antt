@@ -10,4 +10,5 @@ pub mod Making
 pub mod Names
 pub mod Keeping
 pub mod Adding
+pub mod Whole
 pub mod Ending

@@ -7,7 +7,8 @@ use Rattle.ring_math.specs.Keys.{number_of, file_of}
 use Rattle.ring_math.proofs.Spelling.{number_of-be_bytes}
 use Rattle.rand_chacha.specs.ChaCha.{ChaCha}
 use Rattle.schedule.specs.declared.file.MadeFile.{MadeFile}
-use Rattle.schedule.specs.Made.{Making, id_from, node_id, file_name, file_from, file_word, made_file, ids_made, files_made}
+use Rattle.schedule.specs.Made.{file_name, file_from, file_word, made_file}
+use Rattle.schedule.specs.Making.{Making, id_from, node_id, ids_made}
 use Rattle.schedule.specs.Words.{bytes_of, words_from, words_to_come, generator_after, generator_at}
 use Rattle.schedule.proofs.Filling.{words_are, seed_after}
 
@@ -19,13 +20,14 @@ id_is node result words [] is long e = absurd (omega arith)
 id_is node result words (b ∷ bytes) is long e =
     e ∙ number_of-be_bytes (node * 167 % 256 ∷ bytes) long ∙ ap (λ bs. number_of (node * 167 % 256 ∷ drop 1 bs)) is
 
-pub file_is : (j : ℕ) (salt words file name owner salted bytes : List ℕ) → file ≡ file_of name owner salted → name ≡ file_name j →
-    owner ≡ [] → salted ≡ bytes_of salt → bytes ≡ bytes_of words → record { file = file; bytes = bytes } ≡ file_from j salt words
+pub file_is : (j : ℕ) (salt words said file name owner salted bytes : List ℕ) → said ≡ file_name j → file ≡ file_of name owner salted → name ≡ said →
+    owner ≡ [] → salted ≡ bytes_of salt → bytes ≡ bytes_of words → record { name = said; file = file; bytes = bytes } ≡ file_from j salt words
 unfolding file_from
-file_is j salt words file name owner salted bytes is named none salting filled =
-    ap (λ f. record { file = f; bytes = bytes })
-    (is ∙ ap (λ n. file_of n owner salted) named ∙ ap (λ o. file_of (file_name j) o salted) none ∙ ap (λ s. file_of (file_name j) [] s) salting) ∙
-    ap (λ bs. record { file = file_of (file_name j) [] (bytes_of salt); bytes = bs }) filled
+file_is j salt words said file name owner salted bytes called is named none salting filled =
+    ap (λ n. record { name = n; file = file; bytes = bytes }) called ∙
+    ap (λ f. record { name = file_name j; file = f; bytes = bytes })
+    (is ∙ ap (λ n. file_of n owner salted) (named ∙ called) ∙ ap (λ o. file_of (file_name j) o salted) none ∙ ap (λ s. file_of (file_name j) [] s) salting) ∙
+    ap (λ bs. record { name = file_name j; file = file_of (file_name j) [] (bytes_of salt); bytes = bs }) filled
 
 -- the identifier that a seed's generator gives at a node's first word
 pub node_made : (seed node id : ℕ) (g : ChaCha) → g ≡ generator_at seed (4 * node) → node < 256 → id ≡ id_from node (words_to_come g 4) → id ≡ node_id seed node
@@ -68,19 +70,14 @@ pub made_more : {A : Type 0} (f : ℕ → A) (now next : List A) (k : ℕ) (x : 
 made_more {A} f now next k x at is same =
     is ∙ ap (λ xs. xs ++ x ∷ []) at ∙ ap (λ y. map f (range_with_len 0 k) ++ y ∷ []) same ∙ sym (map-range_with_len_more f 0 k k (zero-add k))
 
--- what is made, when all nodes and files are
-pub all_made : (nodes seed : ℕ) (ids : List ℕ) (files : List MadeFile) (now total : ℕ) → now ≡ nodes → total ≡ 20 →
-    ids ≡ map (node_id seed) (range_with_len 0 now) → files ≡ map (made_file nodes seed) (range_with_len 0 total) →
-    (ids ≡ ids_made (record { nodes = length ids; seed = seed })) × (files ≡ files_made (record { nodes = length ids; seed = seed }))
-all_made nodes seed ids files now total whole all ids_are files_are = (
-  ids_are ∙ ap (λ n. map (node_id seed) (range_with_len 0 n)) (whole ∙ size),
-  files_are ∙ ap (λ n. map (made_file nodes seed) (range_with_len 0 n)) all ∙ ap (λ n. map (made_file n seed) (range_with_len 0 20)) size,
-)
-  where
-    size : nodes ≡ length ids
-    size = sym (ap (λ (xs : List ℕ). length xs) ids_are ∙ length-map-range_with_len (node_id seed) 0 now ∙ whole)
+-- what is made, when all nodes are
+pub all_made : (nodes seed : ℕ) (ids : List ℕ) (now : ℕ) → now ≡ nodes → ids ≡ map (node_id seed) (range_with_len 0 now) → ids ≡ ids_made (length ids) seed
+all_made nodes seed ids now whole ids_are =
+    ids_are ∙ ap (λ n. map (node_id seed) (range_with_len 0 n))
+    (sym (ap (λ (xs : List ℕ). length xs) ids_are ∙ length-map-range_with_len (node_id seed) 0 now))
 
-pub made_view : (nodes seed now : ℕ) (ids : List ℕ) → now ≡ nodes → ids ≡ map (node_id seed) (range_with_len 0 now) →
-    ◌≡◌ {A = Making} (record { nodes = length ids; seed = seed }) (record { nodes = nodes; seed = seed })
-made_view nodes seed now ids whole ids_are =
-    ap (λ n. record { nodes = n; seed = seed }) (ap (λ (xs : List ℕ). length xs) ids_are ∙ length-map-range_with_len (node_id seed) 0 now ∙ whole)
+pub made_view : (nodes seed now : ℕ) (ids : List ℕ) (files : List MadeFile) → now ≡ nodes → ids ≡ map (node_id seed) (range_with_len 0 now) →
+    ◌≡◌ {A = Making} (record { nodes = length ids; seed = seed; files = files }) (record { nodes = nodes; seed = seed; files = files })
+made_view nodes seed now ids files whole ids_are =
+    ap (λ n. record { nodes = n; seed = seed; files = files })
+    (ap (λ (xs : List ℕ). length xs) ids_are ∙ length-map-range_with_len (node_id seed) 0 now ∙ whole)

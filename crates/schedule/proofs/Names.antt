@@ -1,5 +1,5 @@
 -- Names and identifiers of a made scenario: how they are spelled, and that they differ.
-use Rattle.std.proofs.Common.{◌≡◌, ◌≢◌, ◌<◌, ◌≤◌, ℕ, zero, suc, ◌+◌, ◌-◌, ◌*◌, ◌%◌, ◌^◌, true, IsTrue, List, [], ◌∷◌, ◌++◌, length, drop, decimal, All, map}
+use Rattle.std.proofs.Common.{◌≡◌, ◌≢◌, ◌<◌, ◌≤◌, ℕ, zero, suc, ◌+◌, ◌-◌, ◌*◌, ◌%◌, ◌^◌, true, IsTrue, List, [], ◌∷◌, ◌++◌, length, length-append, drop, decimal, All, AllPairs, map}
 use Rattle.std.proofs.Common.{get_or, refl, sym, subst, ap, ◌∙◌, zero-add, le-leb, arith}
 use Rattle.std.specs.List.{range_with_len}
 use Rattle.std.specs.Char.{digit_value}
@@ -7,18 +7,22 @@ use Rattle.std.specs.List.{list_all}
 use Rattle.std.specs.Str.Parse.{digits_value, AllDigits}
 use Rattle.std.proofs.lemmas.Str.Parse.{digit_from_value}
 use Rattle.std.proofs.lemmas.Fmt.{decimal_is_IsNumeral, length-decimal-le}
+use Rattle.std.proofs.Math.Seq.{get_or-append_seam}
+use Rattle.std.proofs.lemmas.List.{get_or-map, length-map, map-append, get_or_append_left}
 use Rattle.std.proofs.lemmas.List.Elements.{All-map}
-use Rattle.std.proofs.lemmas.List.FromFn.{length-map-range_with_len, map-range_with_len_more, length-range_with_len, get_or-range_with_len}
+use Rattle.std.proofs.lemmas.List.FromFn.{length-map-range_with_len, map-range_with_len_more, length-range_with_len, get_or-range_with_len, get_or-map-range_with_len}
 use Rattle.overlay_rules.proofs.Each.{Each}
 use Rattle.ring_math.specs.Keys.{number_from}
 use Rattle.scenario_reader.specs.declared.node.NodeLine.{NodeLine}
 use Rattle.scenario_reader.specs.declared.node.FileLine.{FileLine}
 use Rattle.scenario_reader.specs.Plain.{Draft, ids, node_names, file_names}
-use Rattle.scenario_reader.specs.Effects.{with_node, with_file}
+use Rattle.scenario_reader.specs.Effects.{with_node}
 use Rattle.schedule.specs.declared.file.MadeFile.{MadeFile}
 use Rattle.scenario_reader.specs.Rules.{MayDeclareNode, MayDeclareFile}
 use Rattle.scenario_reader.specs.Spelling.{is_name, is_name_byte}
-use Rattle.schedule.specs.Made.{id_from, node_id, node_line, file_line, made_file}
+use Rattle.schedule.specs.Made.{file_name, file_from, made_file, files_made}
+use Rattle.schedule.specs.Making.{id_from, node_id, node_line, file_line, file_lines}
+use Rattle.schedule.proofs.Keeping.{length_of_lines}
 use Rattle.schedule.specs.Words.{bytes_of, words_from}
 
 -- ---- spelling
@@ -34,7 +38,7 @@ digits_are_name_bytes [] h = refl
 digits_are_name_bytes (c ∷ cs) h = rw (digit_is_name_byte c h.0) (digits_are_name_bytes cs h.1)
 
 -- a letter and a small number are spelled as a name
-name_spelled : (letter n : ℕ) → is_name_byte letter ≡ true → n < 1000 → IsTrue (is_name (letter ∷ decimal n))
+pub name_spelled : (letter n : ℕ) → is_name_byte letter ≡ true → n < 1000 → IsTrue (is_name (letter ∷ decimal n))
 name_spelled letter n h few =
     let short : length (decimal n) ≤ 3 = length-decimal-le 3 n (omega arith) (omega arith) (omega arith) in
     let digits = decimal_is_IsNumeral n (omega arith) in
@@ -50,7 +54,7 @@ letter_f = refl
 
 -- ---- names differ
 
-name_tells : (letter i j : ℕ) → i < 2 ^ 64 → j < 2 ^ 64 → letter ∷ decimal i ≡ letter ∷ decimal j → i ≡ j
+pub name_tells : (letter i j : ℕ) → i < 2 ^ 64 → j < 2 ^ 64 → letter ∷ decimal i ≡ letter ∷ decimal j → i ≡ j
 name_tells letter i j hi hj e =
     sym (decimal_is_IsNumeral i hi).1 ∙ ap (λ (name : List ℕ). digits_value 10 (drop 1 name)) e ∙ (decimal_is_IsNumeral j hj).1
 
@@ -132,19 +136,46 @@ may_declare_node seed i draft name id nodes few named identified = record {
     other : (k : ℕ) → k < i → k ≡ i → ⊥
     other k lt e = omega arith
 
-pub may_declare_file : (nodes seed j : ℕ) (draft : Draft) (name : List ℕ) → draft.files ≡ map (file_line nodes seed) (range_with_len 0 j) → j < 20 →
-    name ≡ 102 ∷ decimal j → MayDeclareFile draft name
-may_declare_file nodes seed j draft name files few named = record {
-  few = let size = ap (λ (ns : List FileLine). length ns) files ∙ length-map-range_with_len (file_line nodes seed) 0 j in omega arith;
-  spelled = subst (λ n. IsTrue (is_name n)) (sym named) (name_spelled 102 j letter_f (omega arith));
-  new_name = subst (λ ns. All (λ other. other ≢ name) (file_names ns)) (sym files)
-      (All-map (λ other. other ≢ name) (λ (file : FileLine). file.name) _
-      (All-map (λ (file : FileLine). file.name ≢ name) (file_line nodes seed) (range_with_len 0 j)
-      (all_in_range (λ k. 102 ∷ decimal k ≢ name) j (λ k lt e. other k lt (name_tells 102 k j (omega arith) (omega arith) (e ∙ named))))));
+pub file_name_spelled : (name : List ℕ) (j : ℕ) → name ≡ file_name j → j < 20 → IsTrue (is_name name)
+file_name_spelled name j named few = subst (λ n. IsTrue (is_name n)) (sym named) (name_spelled 102 j letter_f (omega arith))
+
+names_of_lines : (line : ℕ) (files : List MadeFile) → file_names (file_lines line files) ≡ map (λ (made : MadeFile). made.name) files
+names_of_lines line [] = refl
+names_of_lines line (made ∷ files) = ap (λ names. made.name ∷ names) (names_of_lines (line + 1) files)
+
+-- one behind others differs from each of them
+new_behind : (xs ys : List (List ℕ)) (y : List ℕ) → AllPairs ◌≢◌ (xs ++ y ∷ ys) → All (λ x. x ≢ y) xs
+new_behind xs ys y differ k d lt =
+    subst (λ z. get_or xs k d ≢ z) (get_or-append_seam xs y ys d)
+    (subst (λ z. z ≢ get_or (xs ++ y ∷ ys) (length xs) d) (get_or_append_left xs (y ∷ ys) d k lt)
+    (differ k (length xs) d lt (let size = length-append xs (y ∷ ys) in omega arith)))
+
+pub may_declare_file : (draft : Draft) (name : List ℕ) (line : ℕ) (file : FileLine) (rest : List FileLine) (files : List MadeFile) → length files ≤ 256 →
+    AllPairs ◌≢◌ (map (λ (made : MadeFile). made.name) files) → draft.files ++ file ∷ rest ≡ file_lines line files → file.name ≡ name →
+    IsTrue (is_name name) → MayDeclareFile draft name
+may_declare_file draft name line file rest files few differ is named spelled = record {
+  few = let size = ap (λ (fs : List FileLine). length fs) is ∙ length_of_lines line files in let sum = length-append draft.files (file ∷ rest) in omega arith;
+  spelled = spelled;
+  new_name = subst (λ n. All (λ other. other ≢ n) (file_names draft.files)) named
+      (new_behind (file_names draft.files) (file_names rest) file.name
+      (subst (λ ns. AllPairs ◌≢◌ ns) (sym (names_of_lines line files) ∙ ap (λ fs. file_names fs) (sym is) ∙
+      map-append (λ (f : FileLine). f.name) draft.files (file ∷ rest)) differ));
 }
+
+-- the names of a made scenario's files differ
+pub file_names_differ : (nodes seed : ℕ) → AllPairs ◌≢◌ (map (λ (made : MadeFile). made.name) (files_made nodes seed))
+unfolding made_file file_from
+file_names_differ nodes seed i j d lt within e =
+    let size = length-map {A = MadeFile} {B = List ℕ} (files_made nodes seed) (λ made. made.name) in
+    let twenty = length-map-range_with_len (made_file nodes seed) 0 20 in
+    let same = name_tells 102 i j (omega arith) (omega arith) (sym (name_at i (omega arith)) ∙ e ∙ name_at j (omega arith)) in
+    absurd (omega arith)
   where
-    other : (k : ℕ) → k < j → k ≡ j → ⊥
-    other k lt e = omega arith
+    name_at : (k : ℕ) → k < 20 → get_or (map (λ (made : MadeFile). made.name) (files_made nodes seed)) k d ≡ file_name k
+    name_at k few =
+        let inside = length-map-range_with_len (made_file nodes seed) 0 20 in
+        get_or-map (λ (made : MadeFile). made.name) (files_made nodes seed) k (made_file nodes seed k) d (omega arith) ∙
+        ap (λ (made : MadeFile). made.name) (get_or-map-range_with_len (made_file nodes seed) 0 20 k k (made_file nodes seed k) few (zero-add k))
 
 -- ---- what a builder holds, with one more node or file
 
@@ -154,22 +185,15 @@ node_added seed i first now next node at is same =
     is ∙ ap (λ d. with_node d node) at ∙ ap (λ n. record first { nodes = map (node_line seed) (range_with_len 0 i) ++ n ∷ [] }) same ∙
     ap (λ ns. record first { nodes = ns }) (sym (map-range_with_len_more (node_line seed) 0 i i (zero-add i)))
 
-pub file_added : (nodes seed j : ℕ) (first now next : Draft) (file : FileLine) →
-    now ≡ record first { files = map (file_line nodes seed) (range_with_len 0 j) } →
-    next ≡ with_file now file → file ≡ file_line nodes seed j → next ≡ record first { files = map (file_line nodes seed) (range_with_len 0 (j + 1)) }
-file_added nodes seed j first now next file at is same =
-    is ∙ ap (λ d. with_file d file) at ∙ ap (λ f. record first { files = map (file_line nodes seed) (range_with_len 0 j) ++ f ∷ [] }) same ∙
-    ap (λ fs. record first { files = fs }) (sym (map-range_with_len_more (file_line nodes seed) 0 j j (zero-add j)))
-
 -- lines from their parts
 pub node_line_is : (seed i : ℕ) (name : List ℕ) (id : ℕ) → name ≡ 110 ∷ decimal i → id ≡ node_id seed i →
     ◌≡◌ {A = NodeLine} (record { name = name; id = id; line = i + 1 }) (node_line seed i)
 node_line_is seed i name id named identified =
     ap (λ (n : List ℕ). record { name = n; id = id; line = i + 1 }) named ∙ ap (λ x. record { name = 110 ∷ decimal i; id = x; line = i + 1 }) identified
 
-pub file_line_is : (nodes seed j : ℕ) (name bytes : List ℕ) (made : MadeFile) → name ≡ 102 ∷ decimal j → made ≡ made_file nodes seed j → bytes ≡ made.bytes →
-    ◌≡◌ {A = FileLine} (record { name = name; file = made.file; bytes = bytes; line = nodes + j + 1 }) (file_line nodes seed j)
-file_line_is nodes seed j name bytes made named is copied =
-    ap (λ (n : List ℕ). record { name = n; file = made.file; bytes = bytes; line = nodes + j + 1 }) named ∙
-    ap (λ (b : List ℕ). record { name = 102 ∷ decimal j; file = made.file; bytes = b; line = nodes + j + 1 }) copied ∙
-    ap (λ (m : MadeFile). record { name = 102 ∷ decimal j; file = m.file; bytes = m.bytes; line = nodes + j + 1 }) is
+pub file_line_is : (line : ℕ) (name file bytes : List ℕ) (made : MadeFile) → name ≡ made.name → file ≡ made.file → bytes ≡ made.bytes →
+    ◌≡◌ {A = FileLine} (record { name = name; file = file; bytes = bytes; line = line }) (file_line line made)
+file_line_is line name file bytes made named is copied =
+    ap (λ (n : List ℕ). record { name = n; file = file; bytes = bytes; line = line }) named ∙
+    ap (λ (f : List ℕ). record { name = made.name; file = f; bytes = bytes; line = line }) is ∙
+    ap (λ (b : List ℕ). record { name = made.name; file = made.file; bytes = b; line = line }) copied

@@ -1,6 +1,7 @@
 pub mod Begun
 pub mod Cursors
 pub mod Made
+pub mod Making
 pub mod Plan
 pub mod Playing
 pub mod Schedule

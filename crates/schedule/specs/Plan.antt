@@ -36,10 +36,22 @@ abbrev pub plan : ℕ → List Task
 plan nodes =
     join_plan nodes ++ (flat_map insert_tasks (range_with_len 0 MADE_FILES) ++ flat_map (fetch_tasks nodes) (range_with_len 0 MADE_FILES))
 
--- a task of so many nodes
-abbrev pub IsTask : ℕ → Task → Type 0
-IsTask nodes (Join node) = node < nodes
-IsTask nodes (Insert file copies) = (file < MADE_FILES) × (1 ≤ copies) × (copies ≤ MOST_COPIES)
-IsTask nodes (Fetch node file) = (node < nodes) × (file < MADE_FILES)
-IsTask nodes (Settle count) = count ≤ MOST_DELIVERIES
-IsTask nodes (Shuffle count) = count ≤ MOST_DELIVERIES
+-- a task of so many nodes and files
+abbrev pub IsTask : ℕ → ℕ → Task → Type 0
+IsTask nodes files (Join node) = node < nodes
+IsTask nodes files (Insert file copies) = (file < files) × (1 ≤ copies) × (copies ≤ MOST_COPIES)
+IsTask nodes files (Fetch node file) = (node < nodes) × (file < files)
+IsTask nodes files (Settle count) = count ≤ MOST_DELIVERIES
+IsTask nodes files (Shuffle count) = count ≤ MOST_DELIVERIES
+
+-- deliveries that tasks may come to, with one copy of each
+abbrev pub deliveries_of : Task → ℕ
+deliveries_of (Join node) = 0
+deliveries_of (Insert file copies) = 0
+deliveries_of (Fetch node file) = 0
+deliveries_of (Settle count) = count
+deliveries_of (Shuffle count) = count
+
+abbrev pub deliveries_in : List Task → ℕ
+deliveries_in [] = 0
+deliveries_in (task ∷ tasks) = deliveries_of task + deliveries_in tasks

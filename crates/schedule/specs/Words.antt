@@ -33,3 +33,10 @@ generator_after g (suc count) = generator_after (next_word 4 g).1 count
 -- words as bytes, of each the most significant first
 abbrev pub bytes_of : List ℕ → List ℕ
 bytes_of words = flat_map (λ word. to_be_bytes w32 word) words
+
+-- the generator of a seed at the start of a stream, and its words as bytes
+abbrev pub stream_start : ℕ → ℕ → ChaCha
+stream_start seed stream = record { key = key_of (key_bytes seed); stream = stream; word_pos = 0 }
+
+abbrev pub stream_bytes : ℕ → ℕ → ℕ → List ℕ
+stream_bytes seed stream count = bytes_of (words_to_come (stream_start seed stream) count)

@@ -13,10 +13,14 @@ mod turn;
 mod words;
 
 pub use cursor::Cursor;
+pub use file::MadeFile;
 pub use laws::turn_law;
-pub use make::make_scenario;
+pub use made::Made;
+pub use make::{make_scenario, scenario_of};
 pub use shuffle_words::ShuffleWords;
+pub use task::{MADE_FILES, Task, plan_joins};
 pub use turn::Turn;
+pub use words::fill_from_stream;
 
 #[cfg(test)]
 mod tests;

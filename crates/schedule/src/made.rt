@@ -1,24 +1,24 @@
-//! The nodes and files of a scenario that is made of random words.
+//! The nodes and files of a made scenario.
 
-ghost use Rattle.std.specs.Prelude.{◌≡◌, ◌≤◌, ◌<◌, IfOk, OnOk};
+ghost use Rattle.std.specs.Prelude.{◌≡◌, ◌≤◌, ◌<◌, ◌^◌, length, IfOk};
 ghost use Rattle.scenario_reader.specs.declared.limits.TheConstants.{MOST_NODES};
 ghost use Rattle.wire_msg.specs.declared.limits.TheConstants.{MOST_COPIES};
-ghost use Rattle.schedule.specs.Made.{id_from, node_id, file_name, file_from, made_file, what_of};
+ghost use Rattle.schedule.specs.Making.{id_from, node_id, file_at, what_of};
 ghost use Rattle.schedule.specs.Plan.{IsTask};
 ghost use Rattle.schedule.specs.Words.{words_to_come, generator_after};
 
-use crate::file::{MadeFile, file_name};
-use crate::task::{MADE_FILES, Task};
+use crate::file::MadeFile;
+use crate::task::Task;
 use crate::words::Words;
-use ring_math::{Bytes, Id, OutOfMemory, file_id};
+use ring_math::{Id, OutOfMemory};
 use scenario_reader::What;
 use std::alloc::Global;
 use std::marker::Model;
 use wire_msg::{Command, Copies};
 
-/// Nodes and files, made of the words of a seed.
+/// Nodes that are made of the words of a seed, and files.
 #[derive(Drop)]
-pub(crate) struct Made {
+pub struct Made {
     seed: u64,
     ids: Vec<Id>,
     files: Vec<MadeFile>,
@@ -26,32 +26,53 @@ pub(crate) struct Made {
 
 impl Model for Made {
     ghost use Rattle.std.specs.Prelude.{◌≡◌, length};
-    ghost use Rattle.scenario_reader.specs.declared.limits.TheConstants.{MOST_NODES};
-    ghost use Rattle.wire_msg.specs.declared.limits.TheConstants.{MOST_COPIES};
-    ghost use Rattle.schedule.specs.Made.{Making, ids_made, files_made};
+    ghost use Rattle.schedule.specs.Making.{Making, ids_made};
 
     ghost Value = { Making };
 
-    ghost view = { λ a. record { nodes = length a.ids.items; seed = a.seed } };
+    ghost view = { λ a. record { nodes = length a.ids.items; seed = a.seed; files = a.files.items } };
 
-    ghost invariant = { λ a. (a.ids.items ≡ ids_made (record { nodes = length a.ids.items; seed = a.seed })) × (a.files.items ≡ files_made (record { nodes = length a.ids.items; seed = a.seed })) };
+    ghost invariant = { λ a. a.ids.items ≡ ids_made (length a.ids.items) a.seed };
 }
 
 impl Made {
-    pub(crate) fn new(alloc: Global, nodes: u32, seed: u64) -> Result<Made, OutOfMemory>
+    /// So many nodes, of this seed, and these files.
+    pub fn new(
+        alloc: Global,
+        nodes: u32,
+        seed: u64,
+        files: Vec<MadeFile>,
+    ) -> Result<Made, OutOfMemory>
         requires { nodes ≤ MOST_NODES }
-        ensures { IfOk result (λ made. made ≡ record { nodes = nodes; seed = seed }) }
+        ensures { IfOk result (λ made. made ≡ record { nodes = nodes; seed = seed; files = files.items }) }
     {
         let mut words = Words::new(seed);
         let mut ids = Vec::new(alloc);
         for node in 0..nodes {
             ids.push(make_id(&mut words, node))?;
         }
-        let mut files = Vec::new(alloc);
-        for file in 0..MADE_FILES {
-            files.push(make_file(alloc, &mut words, file)?)?;
-        }
         Ok(Made { seed, ids, files })
+    }
+
+    /// A seed is below 2^64: a law, which does nothing. For one behind a reference a proof has it in no other way.
+    pub(crate) fn range_law(&self)
+        ensures { self.now.seed < 2 ^ 64 }
+    {
+        let _seed = self.seed;
+    }
+
+    /// How many nodes there are.
+    pub(crate) fn nodes(&self) -> u32
+        requires { self.now.nodes ≤ MOST_NODES }
+        ensures { result ≡ self.now.nodes }
+    {
+        self.ids.len() as u32
+    }
+
+    pub(crate) fn files(&self) -> &[MadeFile]
+        ensures { result.now ≡ self.now.files }
+    {
+        &self.files
     }
 
     pub(crate) fn id(&self, node: u32) -> Id
@@ -61,9 +82,9 @@ impl Made {
         self.ids[node as usize]
     }
 
-    pub(crate) fn file(&self, file: u32) -> &MadeFile
-        requires { file < MADE_FILES }
-        ensures { result.now ≡ made_file self.now.nodes self.now.seed file }
+    fn file(&self, file: u32) -> &MadeFile
+        requires { file < length self.now.files }
+        ensures { result.now ≡ file_at self.now file }
     {
         &self.files[file as usize]
     }
@@ -71,8 +92,8 @@ impl Made {
     /// What a task says, where a command has this number.
     pub(crate) fn what(&self, alloc: Global, number: u64, task: Task) -> Result<What, OutOfMemory>
         requires some { 1 ≤ self.now.nodes }
-        requires task { IsTask self.now.nodes task }
-        ensures { IfOk result (λ w. w ≡ what_of self.now.nodes self.now.seed number task) }
+        requires task { IsTask self.now.nodes (length self.now.files) task }
+        ensures { IfOk result (λ w. w ≡ what_of self.now number task) }
     {
         let (node, command) = match task {
             Task::Join(node) => (node, Command::Join { via: self.id(0) }),
@@ -95,10 +116,10 @@ impl Made {
     }
 
     fn insert(&self, alloc: Global, file: u32, copies: u8) -> Result<Command, OutOfMemory>
-        requires file { file < MADE_FILES }
+        requires file { file < length self.now.files }
         requires some { 1 ≤ copies }
         requires few { copies ≤ MOST_COPIES }
-        ensures { IfOk result (λ c. c ≡ Command.Insert (made_file self.now.nodes self.now.seed file).file copies (made_file self.now.nodes self.now.seed file).bytes) }
+        ensures { IfOk result (λ c. c ≡ Command.Insert (file_at self.now file).file copies (file_at self.now file).bytes) }
     {
         let made = self.file(file);
         Ok(Command::Insert {
@@ -119,21 +140,4 @@ fn make_id(words: &mut Words, node: u32) -> Id
     words.fill(&mut bytes);
     bytes[0] = (node * 167 % 256) as u8;
     Id(u128::from_be_bytes(bytes))
-}
-
-/// A file: of the next words two are its salt, and then sixteen its bytes.
-fn make_file(alloc: Global, words: &mut Words, file: u32) -> Result<MadeFile, OutOfMemory>
-    ensures file { IfOk result (λ made. made ≡ file_from file (words_to_come words.old 2) (words_to_come (generator_after words.old 2) 16)) }
-    ensures after { OnOk result (words.new ≡ generator_after (generator_after words.old 2) 16) }
-{
-    let mut salt = [0; 8];
-    words.fill(&mut salt);
-    let mut bytes = [0; 64];
-    words.fill(&mut bytes);
-    let name = file_name(alloc, file)?;
-    let file = file_id(name.as_bytes(), b"", &salt);
-    match Bytes::copy_of(alloc, &bytes) {
-        Ok(bytes) => Ok(MadeFile { file, bytes }),
-        Err(_) => Err(OutOfMemory),
-    }
 }

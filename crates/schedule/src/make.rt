@@ -1,13 +1,14 @@
 //! Scenarios that are made of a seed.
 
-ghost use Rattle.std.specs.Prelude.{◌≡◌, ◌+◌, ◌^◌, ◌≤◌, ◌<◌, [], IfOk, OnOk, IsSome};
-ghost use Rattle.scenario_reader.specs.declared.limits.TheConstants.{MOST_NODES};
-ghost use Rattle.schedule.specs.Made.{node_lines, file_lines, written, made};
-ghost use Rattle.schedule.specs.Plan.{plan};
+ghost use Rattle.std.specs.Prelude.{◌≡◌, ◌+◌, ◌^◌, ◌≤◌, ◌<◌, [], length, map, AllPairs, ◌≢◌, IfOk, OnOk, IsSome};
+ghost use Rattle.scenario_reader.specs.declared.limits.TheConstants.{MOST_NODES, MOST_FILES};
+ghost use Rattle.schedule.specs.declared.file.MadeFile.{MadeFile as PlainFile};
+ghost use Rattle.schedule.specs.Made.{made};
+ghost use Rattle.schedule.specs.Making.{IsMaking, AreTasks, node_lines, file_lines, written, scenario_of};
 
-use crate::file::{file_name, node_name};
+use crate::file::{MadeFile, make_files, node_name};
 use crate::made::Made;
-use crate::task::{MADE_FILES, plan};
+use crate::task::{Task, plan};
 use ring_math::OutOfMemory;
 use scenario_reader::{Action, Scenario, ScenarioBuilder};
 use std::alloc::Global;
@@ -19,12 +20,24 @@ pub fn make_scenario(alloc: Global, nodes: u32, seed: u64) -> Result<Scenario, O
     requires few { nodes ≤ MOST_NODES }
     ensures { IfOk result (λ scenario. scenario ≡ made nodes seed) }
 {
-    let made = Made::new(alloc, nodes, seed)?;
+    let files = make_files(alloc, nodes, seed)?;
+    let made = Made::new(alloc, nodes, seed, files)?;
+    let tasks = plan(alloc, nodes)?;
+    scenario_of(alloc, &made, &tasks)
+}
+
+/// The scenario of these nodes and files, in which the first node is the founder and the tasks are done one after another.
+pub fn scenario_of(alloc: Global, made: &Made, tasks: &[Task]) -> Result<Scenario, OutOfMemory>
+    requires made { IsMaking made.now }
+    requires tasks { AreTasks made.now tasks.now }
+    ensures { IfOk result (λ scenario. scenario ≡ scenario_of made.now tasks.now) }
+{
     let mut builder = ScenarioBuilder::new(alloc);
-    declare_nodes(alloc, &mut builder, &made, nodes)?;
-    declare_files(alloc, &mut builder, &made, nodes)?;
+    declare_nodes(alloc, &mut builder, made)?;
+    declare_files(alloc, &mut builder, made.nodes() + 1, made.files())?;
     builder.set_founder(made.id(0));
-    act(alloc, &mut builder, &made, nodes)?;
+    made.range_law();
+    act(alloc, &mut builder, made, tasks)?;
     Ok(builder.finish())
 }
 
@@ -32,42 +45,35 @@ fn declare_nodes(
     alloc: Global,
     builder: &mut ScenarioBuilder,
     made: &Made,
-    nodes: u32,
 ) -> Result<(), OutOfMemory>
-    requires few { nodes ≤ MOST_NODES }
-    requires of { made.now.nodes ≡ nodes }
+    requires few { made.now.nodes ≤ MOST_NODES }
     requires none { builder.old.nodes ≡ [] }
-    ensures { OnOk result (builder.new ≡ record builder.old { nodes = node_lines nodes made.now.seed }) }
+    ensures { OnOk result (builder.new ≡ record builder.old { nodes = node_lines made.now.nodes made.now.seed }) }
 {
-    for node in 0..nodes {
+    for node in 0..made.nodes() {
         let name = node_name(alloc, node)?;
         builder.add_node(alloc, name.as_bytes(), made.id(node), node + 1)?;
     }
     Ok(())
 }
 
+/// Declares files, from a line on.
 fn declare_files(
     alloc: Global,
     builder: &mut ScenarioBuilder,
-    made: &Made,
-    nodes: u32,
+    mut line: u32,
+    files: &[MadeFile],
 ) -> Result<(), OutOfMemory>
-    requires few { nodes ≤ MOST_NODES }
-    requires of { made.now.nodes ≡ nodes }
+    requires few { length files.now ≤ MOST_FILES }
+    requires names { AllPairs ◌≢◌ (map (λ (made : PlainFile). made.name) files.now) }
+    requires line { line < 2 ^ 16 }
     requires none { builder.old.files ≡ [] }
-    ensures { OnOk result (builder.new ≡ record builder.old { files = file_lines nodes made.now.seed }) }
+    ensures { OnOk result (builder.new ≡ record builder.old { files = file_lines line files.now }) }
 {
-    for file in 0..MADE_FILES {
-        let name = file_name(alloc, file)?;
-        let declared = made.file(file);
-        let bytes = declared.bytes.copy(alloc)?;
-        builder.add_file(
-            alloc,
-            name.as_bytes(),
-            declared.file,
-            bytes,
-            nodes + file + 1,
-        )?;
+    for made in files {
+        let bytes = made.bytes.copy(alloc)?;
+        builder.add_file(alloc, made.name.as_slice(), made.file, bytes, line)?;
+        line += 1;
     }
     Ok(())
 }
@@ -77,22 +83,20 @@ fn act(
     alloc: Global,
     builder: &mut ScenarioBuilder,
     made: &Made,
-    nodes: u32,
+    tasks: &[Task],
 ) -> Result<(), OutOfMemory>
-    requires some { 2 ≤ nodes }
-    requires few { nodes ≤ MOST_NODES }
-    requires of { made.now.nodes ≡ nodes }
-    requires nodes { builder.old.nodes ≡ node_lines nodes made.now.seed }
-    requires files { builder.old.files ≡ file_lines nodes made.now.seed }
+    requires made { IsMaking made.now }
+    requires tasks { AreTasks made.now tasks.now }
+    requires nodes { builder.old.nodes ≡ node_lines made.now.nodes made.now.seed }
+    requires files { builder.old.files ≡ file_lines (made.now.nodes + 1) made.now.files }
     requires seed { made.now.seed < 2 ^ 64 }
     requires founder { IsSome builder.old.founder }
     requires none { builder.old.actions ≡ [] }
-    ensures { OnOk result (builder.new ≡ record builder.old { actions = written nodes made.now.seed 1 (nodes + 22) (plan nodes) }) }
+    ensures { OnOk result (builder.new ≡ record builder.old { actions = written made.now 1 (made.now.nodes + length made.now.files + 2) tasks.now }) }
 {
     let mut number = 1;
-    let mut line = nodes + MADE_FILES + 2;
-    let tasks = plan(alloc, nodes)?;
-    for task in &tasks {
+    let mut line = made.nodes() + made.files().len() as u32 + 2;
+    for task in tasks {
         let what = made.what(alloc, number, *task)?;
         builder.add_action(alloc, Action { line, what })?;
         number = task.number_after(number);

@@ -4,8 +4,8 @@ ghost use Rattle.std.specs.Prelude.{◌≡◌, ◌+◌, ◌-◌, ◌≤◌, ◌<
 ghost use Rattle.std.specs.List.{range_with_len};
 ghost use Rattle.scenario_reader.specs.declared.limits.TheConstants.{MOST_NODES};
 ghost use Rattle.schedule.specs.declared.task.Task.TheVariants.{Fetch, Settle};
-ghost use Rattle.schedule.specs.Made.{number_after};
-ghost use Rattle.schedule.specs.Plan.{group_tasks, insert_tasks, plan};
+ghost use Rattle.schedule.specs.Making.{number_after};
+ghost use Rattle.schedule.specs.Plan.{group_tasks, insert_tasks, join_plan, plan};
 
 use ring_math::OutOfMemory;
 use std::alloc::Global;
@@ -14,11 +14,11 @@ use std::alloc::Global;
 const BUDGET: u32 = 2_000;
 
 /// How many files are inserted and fetched.
-pub(crate) const MADE_FILES: u32 = 20;
+pub const MADE_FILES: u32 = 20;
 
 /// A line, in the numbers of the nodes and files.
-#[derive(Clone, Copy)]
-pub(crate) enum Task {
+#[derive(Clone, Copy, PartialEq, Eq, Debug)]
+pub enum Task {
     /// A node joins by way of node 0.
     Join(u32),
     /// Node 0 inserts a file.
@@ -48,18 +48,28 @@ pub(crate) fn plan(alloc: Global, nodes: u32) -> Result<Vec<Task>, OutOfMemory>
     requires few { nodes ≤ MOST_NODES }
     ensures { IfOk result (λ tasks. tasks.items ≡ plan nodes) }
 {
+    let mut tasks = plan_joins(alloc, nodes)?;
+    for file in 0..MADE_FILES {
+        plan_insert(&mut tasks, file)?;
+    }
+    for file in 0..MADE_FILES {
+        plan_fetch(&mut tasks, file % nodes, file)?;
+    }
+    Ok(tasks)
+}
+
+/// The tasks by which so many nodes join: in groups of three, whose members join beside one another and then each alone.
+pub fn plan_joins(alloc: Global, nodes: u32) -> Result<Vec<Task>, OutOfMemory>
+    requires some { 1 ≤ nodes }
+    requires few { nodes ≤ MOST_NODES }
+    ensures { IfOk result (λ tasks. tasks.items ≡ join_plan nodes) }
+{
     let mut tasks = Vec::new(alloc);
     let mut first = 1;
     while first < nodes {
         let end = nodes.min(first + 3);
         plan_group(&mut tasks, first, end)?;
         first = end;
-    }
-    for file in 0..MADE_FILES {
-        plan_insert(&mut tasks, file)?;
-    }
-    for file in 0..MADE_FILES {
-        plan_fetch(&mut tasks, file % nodes, file)?;
     }
     Ok(tasks)
 }

@@ -2,7 +2,7 @@
 
 ghost use Rattle.std.specs.Prelude.{◌≡◌, ◌%◌, ◌/◌, length};
 ghost use Rattle.rand_chacha.specs.ChaCha.{next_word};
-ghost use Rattle.schedule.specs.Words.{key_bytes, generator_at, generator_after, words_to_come, bytes_of};
+ghost use Rattle.schedule.specs.Words.{key_bytes, generator_at, stream_start, stream_bytes, generator_after, words_to_come, bytes_of};
 
 use rand_chacha::ChaCha8Rng;
 use rand_core::SeedableRng;
@@ -50,6 +50,15 @@ impl Words {
         words
     }
 
+    /// The words of another stream, from its start on.
+    fn of_stream(seed: u64, stream: u64) -> Words
+        ensures { result ≡ stream_start seed stream }
+    {
+        let mut words = Words::new(seed);
+        words.generator.set_stream(stream);
+        words
+    }
+
     pub(crate) fn next(&mut self) -> u32
         ensures word { result ≡ (next_word 4 self.old).0 }
         ensures after { self.new ≡ (next_word 4 self.old).1 }
@@ -69,4 +78,12 @@ impl Words {
             bytes[4 * i..4 * i + 4].copy_from_slice(&word.to_be_bytes());
         }
     }
+}
+
+/// Fills bytes with the words of a stream of a seed's generator, from its start on, each most significant byte first.
+pub fn fill_from_stream(seed: u64, stream: u64, bytes: &mut [u8])
+    requires { length bytes.old % 4 ≡ 0 }
+    ensures { bytes.new ≡ stream_bytes seed stream (length bytes.old / 4) }
+{
+    Words::of_stream(seed, stream).fill(bytes);
 }

@@ -1,13 +1,11 @@
-use Rattle.std.proofs.Common.{◌≡◌, ◌≤◌, ◌+◌, ◌++◌, drop}
-use Rattle.schedule.specs.Made.{written}
-use Rattle.schedule.specs.Plan.{plan}
+use Rattle.std.proofs.Common.{◌≡◌, ◌≤◌, ◌+◌, ◌++◌, drop, length}
+use Rattle.schedule.specs.Making.{written}
 use Rattle.schedule.proofs.make.act.Given as goal
 
 abbrev pub invariant-loop-task : goal.invariant-loop-task
 invariant-loop-task l = record {
-  rest : l.builder.actions ++ written l.nodes l.made.seed l.number l.line (drop l.task-index l.task-items) ≡ written l.nodes l.made.seed 1 (l.nodes + 22)
-      (plan l.nodes);
+  rest : l.builder.actions ++ written l.made l.number l.line (drop l.task-index l.tasks) ≡ written l.made 1 (l.made.nodes + length l.made.files + 2) l.tasks;
   same : l.builder ≡ record l.fn.builder { actions = l.builder.actions };
   number : l.number ≤ l.task-index + 1;
-  line : l.line ≡ l.nodes + 22 + l.task-index;
+  line : l.line ≡ l.made.nodes + length l.made.files + 2 + l.task-index;
 }

@@ -1,7 +1,10 @@
-use Rattle.std.proofs.Common.{◌≡◌, map}
-use Rattle.std.specs.List.{range_with_len}
-use Rattle.schedule.specs.Made.{file_line}
+use Rattle.std.proofs.Common.{◌≡◌, ◌+◌, ◌++◌, drop}
+use Rattle.schedule.specs.Making.{file_lines}
 use Rattle.schedule.proofs.make.declare_files.Given as goal
 
-abbrev pub invariant-loop-file : goal.invariant-loop-file
-invariant-loop-file l = l.builder ≡ record l.fn.builder { files = map (file_line l.nodes l.made.seed) (range_with_len 0 l.file) }
+abbrev pub invariant-loop-made : goal.invariant-loop-made
+invariant-loop-made l = record {
+  rest : l.builder.files ++ file_lines l.line (drop l.made-index l.files) ≡ file_lines l.fn.line l.files;
+  same : l.builder ≡ record l.fn.builder { files = l.builder.files };
+  line : l.line ≡ l.fn.line + l.made-index;
+}

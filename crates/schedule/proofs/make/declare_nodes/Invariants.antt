@@ -1,6 +1,6 @@
 use Rattle.std.proofs.Common.{◌≡◌, map}
 use Rattle.std.specs.List.{range_with_len}
-use Rattle.schedule.specs.Made.{node_line}
+use Rattle.schedule.specs.Making.{node_line}
 use Rattle.schedule.proofs.make.declare_nodes.Given as goal
 
 abbrev pub invariant-loop-node : goal.invariant-loop-node

@@ -1,14 +1,12 @@
--- The founder is the first of the nodes that were declared.
-use Rattle.std.proofs.Common.{ap, ◌∙◌, arith}
-use Rattle.scenario_reader.specs.Plain.{Draft}
-use Rattle.schedule.proofs.Keeping.{may_found}
+use Rattle.std.proofs.Common.{◌∙◌}
+use Rattle.schedule.proofs.Whole.{is_making, are_tasks}
 use Rattle.schedule.proofs.make.make_scenario.Goals as goal
 
-pub set_founder-requires : goal.set_founder-requires
-set_founder-requires c =
-    let files = c.in_ok-declare_files.ensures in
-    let nodes = c.in_ok-declare_nodes.ensures in
-    may_found c.args.nodes c.in_ok-made.made.seed _ _ (omega arith)
-    (ap (λ (draft : Draft). draft.founder) files ∙ ap (λ (draft : Draft). draft.founder) nodes ∙ ap (λ (draft : Draft). draft.founder) c.new-builder.ensures)
-    (ap (λ (draft : Draft). draft.nodes) files ∙ ap (λ (draft : Draft). draft.nodes) nodes)
-    c.id.ensures
+pub scenario_of-requires-clause-made : goal.scenario_of-requires-clause-made
+scenario_of-requires-clause-made c =
+    is_making c.args.nodes c.args.seed c.in_ok-made.made _ c.in_ok-made.ensures c.in_ok-files.ensures c.requires.some c.requires.few
+
+pub scenario_of-requires-clause-tasks : goal.scenario_of-requires-clause-tasks
+scenario_of-requires-clause-tasks c =
+    are_tasks c.args.nodes c.args.seed c.in_ok-made.made _ c.deref.result.now c.in_ok-made.ensures c.in_ok-files.ensures
+    (c.deref.ensures.value ∙ c.in_ok-tasks.ensures) c.requires.some c.requires.few

@@ -1,6 +1,6 @@
 use Rattle.std.proofs.Common.{◌≡◌, ◌*◌, map}
 use Rattle.std.specs.List.{range_with_len}
-use Rattle.schedule.specs.Made.{node_id, made_file, file_word}
+use Rattle.schedule.specs.Making.{node_id}
 use Rattle.schedule.specs.Words.{generator_at}
 use Rattle.schedule.proofs.made.Made.new.Given as goal
 
@@ -8,10 +8,4 @@ abbrev pub invariant-loop-node : goal.invariant-loop-node
 invariant-loop-node l = record {
   ids : l.ids.items ≡ map (node_id l.seed) (range_with_len 0 l.node);
   words : l.words ≡ generator_at l.seed (4 * l.node);
-}
-
-abbrev pub invariant-loop-file : goal.invariant-loop-file
-invariant-loop-file l = record {
-  files : l.files.items ≡ map (made_file l.nodes l.seed) (range_with_len 0 l.file);
-  words : l.words ≡ generator_at l.seed (file_word l.nodes l.file);
 }
