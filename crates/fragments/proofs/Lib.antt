@@ -1,0 +1,4 @@
+pub mod Seeking
+pub mod Returning
+pub mod Pieced
+pub mod Planned
