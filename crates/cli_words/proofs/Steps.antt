@@ -225,14 +225,16 @@ and_false true = refl
 and_false false = refl
 
 abbrev pub IsModeName : Text → Type 0
-IsModeName m = (m ≡ codes "play") ⊎ (m ≡ codes "big")
+IsModeName m = (m ≡ codes "play") ⊎ (m ≡ codes "big") ⊎ (m ≡ codes "trace")
 
 mode_walked_as : (names : Bor (List (Bor Text))) (m : Text) (held : List Row) (pending : Option (Text × List Text)) → IsModeName m →
     walked (rules names) [] (stand held pending idle 1) m ≡ stand (settled_rows (rules names) pending held) (Some (codes "mode", m ∷ [])) idle 2
 unfolding clap_on_literals
 mode_walked_as names m held pending (inl e) = let h =
     and_false (option_map_or (λ (q : Text × List Text). bytes_eq q.0 (codes "mode")) pending false) in rw (e, h) refl
-mode_walked_as names m held pending (inr e) = let h =
+mode_walked_as names m held pending (inr (inl e)) = let h =
+    and_false (option_map_or (λ (q : Text × List Text). bytes_eq q.0 (codes "mode")) pending false) in rw (e, h) refl
+mode_walked_as names m held pending (inr (inr e)) = let h =
     and_false (option_map_or (λ (q : Text × List Text). bytes_eq q.0 (codes "mode")) pending false) in rw (e, h) refl
 
 mode_fault_is : (names : Bor (List (Bor Text))) (m : Text) (held : List Row) (pending : Option (Text × List Text)) → IsModeName m →
@@ -240,7 +242,9 @@ mode_fault_is : (names : Bor (List (Bor Text))) (m : Text) (held : List Row) (pe
 unfolding clap_on_literals
 mode_fault_is names m held pending (inl e) = let h =
     and_false (option_map_or (λ (q : Text × List Text). bytes_eq q.0 (codes "mode")) pending false) in rw (e, h) refl
-mode_fault_is names m held pending (inr e) = let h =
+mode_fault_is names m held pending (inr (inl e)) = let h =
+    and_false (option_map_or (λ (q : Text × List Text). bytes_eq q.0 (codes "mode")) pending false) in rw (e, h) refl
+mode_fault_is names m held pending (inr (inr e)) = let h =
     and_false (option_map_or (λ (q : Text × List Text). bytes_eq q.0 (codes "mode")) pending false) in rw (e, h) refl
 
 pub mode_step : (names : Bor (List (Bor Text))) (m : Text) (held : List Row) (pending : Option (Text × List Text)) (rows : List Row) → IsModeName m →
@@ -258,5 +262,7 @@ mode_turn names m held pending rows is at = mode_fault_is names m held pending i
 pub mode_accepted : (names : Bor (List (Bor Text))) (m : Text) → AreModes names → IsModeName m → accepts false (vp.Names names) m ≡ true
 mode_accepted names m modes (inl e) =
     list_any-map (λ (s : Text). bytes_eq s m) (λ (s : Bor Text). s.now) names.now ∙ ap (list_any (λ (s : Text). bytes_eq s m)) modes ∙ rw e refl
-mode_accepted names m modes (inr e) =
+mode_accepted names m modes (inr (inl e)) =
+    list_any-map (λ (s : Text). bytes_eq s m) (λ (s : Bor Text). s.now) names.now ∙ ap (list_any (λ (s : Text). bytes_eq s m)) modes ∙ rw e refl
+mode_accepted names m modes (inr (inr e)) =
     list_any-map (λ (s : Text). bytes_eq s m) (λ (s : Bor Text). s.now) names.now ∙ ap (list_any (λ (s : Text). bytes_eq s m)) modes ∙ rw e refl

@@ -9,6 +9,8 @@ pub enum Mode {
     Play,
     /// Plays the scenario that is made of so many nodes, 2 to 256, and a seed, and writes its summary.
     Big { nodes: u32, seed: u64 },
+    /// Plays a scenario and writes its record as a trace.
+    Trace,
 }
 
 /// Why words were not read.

@@ -13,11 +13,12 @@ use Rattle.pastry.specs.Faults.{IsWritingFault}
 use Rattle.pastry.specs.Reading.{IsRefused, IsScenario}
 use Rattle.clap.specs.Walk.{Text}
 use Rattle.cli_words.specs.declared.mode.Mode.{Mode}
+use Rattle.cli_words.specs.declared.mode.Mode.TheVariants.{Play, Big, Trace}
 use Rattle.pastry.specs.Asked.{AskFor, NamePlainly}
-use Rattle.pastry.specs.Runs.{DoneOr, IsAnswered, IsDue}
+use Rattle.pastry.specs.Due.{DoneOr, IsAnswered, IsDue}
 use Rattle.pastry.proofs.Words.{named_is}
 
--- what the clauses of a run in mode `play` say of its fault
+-- what the clauses of a run that reads a scenario say of its fault
 pub record Causes (left left_after : Option (List ℕ)) (rose_source rose_sink : Type 0) (answered : Option TopFault) : Type 0 where
   pub usage : answered ≢ Some fault.Usage
   pub done : answered ≡ None → (s : PlainScenario) × IsScenario left left_after s
@@ -95,6 +96,13 @@ big_is_done rose_sink (Some fault.OutOfMemory) kind unwritten sink = inr refl
 pub steady_count : (before after : ℕ) → before ≡ 0 → after ≡ 0 → Rose before after → ⊥
 steady_count before after e f (inl lt) = omega arith
 steady_count before after e f (inr top) = omega arith
+
+-- where no device failed, what is due is due
+pub due_where_none_fails : (mode : Mode) (rose_source rose_sink : Type 0) (left : Option (List ℕ)) (answered : Option TopFault) →
+    (rose_source → ⊥) → (rose_sink → ⊥) → IsDue mode rose_source rose_sink left answered → IsDue mode ⊥ ⊥ left answered
+due_where_none_fails Play rose_source rose_sink left answered source sink due = λ _ _. due source sink
+due_where_none_fails (Big nodes seed) rose_source rose_sink left answered source sink due = λ _. due sink
+due_where_none_fails Trace rose_source rose_sink left answered source sink due = λ _ _. due source sink
 
 -- what is due in the mode that words ask for is due in the one that they name
 pub due_as_named : (rose_source rose_sink : Type 0) (left : Option (List ℕ)) (answered : Option TopFault) (words : List Text) (mode named : Mode) →

@@ -4,7 +4,6 @@ use Rattle.std.specs.Borrow.{Bor}
 use Rattle.std.specs.Prelude.{IsOkAnd}
 use Rattle.clap.specs.Walk.{Text}
 use Rattle.cli_words.specs.declared.mode.Mode.{Mode}
-use Rattle.cli_words.specs.declared.mode.Mode.TheVariants.{Play, Big}
 use Rattle.cli_words.specs.declared.mode.WordFault.{WordFault}
 use Rattle.cli_words.specs.declared.mode.WordFault.TheVariants.{Usage, OutOfMemory}
 use Rattle.cli_words.specs.Command.{AreModes, Reads}
@@ -57,9 +56,3 @@ same e = cc
 -- plain words name the mode that they ask for
 pub named_is : (words : List Text) (mode named : Mode) → AskFor words mode → NamePlainly words named → mode ≡ named
 named_is words mode named ask plain = same (sym (ask.plain plain.pieces plain.plain) ∙ plain.named)
-
-distinct : {nodes seed : ℕ} → Play ≡ Big nodes seed → ⊥
-distinct e = cc
-
-pub not_both_modes : (words : List Text) (nodes seed : ℕ) → AskFor words Play → NamePlainly words (Big nodes seed) → ⊥
-not_both_modes words nodes seed ask plain = distinct (named_is words Play (Big nodes seed) ask plain)

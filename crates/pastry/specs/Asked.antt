@@ -17,6 +17,12 @@ pub record AskFor (words : List Text) (mode : Mode) : Type 0 where
   pub found : mode_of (matches_of (command_of names) words) ≡ Some mode
   pub plain : (pieces : List Piece) → ArePlain pieces words → mode_by pieces ≡ Some mode
 
+-- they ask for a mode of which this holds
+pub record AskForOneThat (words : List Text) (P : Mode → Type 0) : Type 0 where
+  pub mode : Mode
+  pub asked : AskFor words mode
+  pub holds : P mode
+
 -- the command refuses the words, for another cause than memory; so they are not plain
 pub record AreUsage (words : List Text) : Type 0 where
   pub names : Bor (List (Bor Text))

@@ -1,6 +1,9 @@
 pub mod Asked
+pub mod Due
 pub mod Faults
 pub mod Headline
+pub mod Outputs
+pub mod Played
 pub mod Prepared
 pub mod Reading
 pub mod Runs

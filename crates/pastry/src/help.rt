@@ -20,9 +20,11 @@ pub(crate) fn ask_for_help(words: &[RcStr]) -> bool {
 const MODES: &str = "\
 usage: pastry play < SCENARIO
        pastry big [--nodes N] [--seed N]
+       pastry trace < SCENARIO
 
   play        plays the scenario on standard input, and writes its report
   big         plays a scenario that it makes itself, and writes its summary and a tally
+  trace       plays the scenario on standard input, and writes all that happened, as docs/TRACES.md has it
 ";
 
 const STATUSES: &str = "\

@@ -7,6 +7,8 @@ mod laws;
 mod message;
 mod modes;
 mod outcome;
+mod output;
+mod playing;
 mod progress;
 mod reading;
 mod telling;

@@ -1,157 +1,49 @@
 //! What the program does in each of its modes.
 
-ghost use Rattle.std.specs.Prelude.{◌≡◌, ◌≢◌, ◌≤◌, ◌↔◌, ◌⊎◌, Some, None, IfOk, IfSome, IsSome, IsNone};
+ghost use Rattle.std.specs.Prelude.{◌≡◌, ◌≢◌, ◌≤◌, ◌↔◌, ◌⊎◌, Some, None, IsSome, IsNone};
 ghost use Rattle.outside.specs.Rose.{Rose};
-ghost use Rattle.scenario_reader.specs.declared.limits.TheConstants.{MOST_NODES};
 ghost use Rattle.scenario_reader.specs.declared.fault.LineFault.{LineFault as Fault};
-ghost use Rattle.schedule.specs.Made.{made};
-ghost use Rattle.delivery_report.specs.Texts.{report_text, summary_text};
-ghost use Rattle.pastry.specs.Faults.{status_of, IsWritingFault};
-ghost use Rattle.pastry.specs.Prepared.{Prepares};
-ghost use Rattle.pastry.specs.Reading.{IsScenario, IsRefused};
-ghost use Rattle.pastry.specs.Runs.{HasPlayed, IsPlayed};
+ghost use Rattle.cli_words.specs.Command.{HasNodesInRange};
+ghost use Rattle.pastry.specs.Due.{IsDue};
+ghost use Rattle.pastry.specs.Faults.{status_of};
+ghost use Rattle.pastry.specs.Reading.{IsRefused};
+ghost use Rattle.pastry.specs.Runs.{IsDone, ReadsScenario};
 ghost use Rattle.pastry.specs.Written.{IsTaken, IsBrokenOff, WasReadByCalls};
 
-use crate::laws::headline_law;
 use crate::outcome::{Outcome, TopFault};
-use crate::reading::read_input;
-use delivery_report::{report, summary};
-use outside::{Sink, Source, Turnstile, write_all};
-use overlay_rules::Record;
-use play_engine::{ids_of, play_past};
-use ring_math::OutOfMemory;
-use scenario_reader::Scenario;
-use schedule::make_scenario;
+use crate::output::Output;
+use crate::playing::{play_made, play_read};
+use cli_words::Mode;
+use outside::{Sink, Source, Turnstile};
 use std::alloc::Global;
-use wire_msg::Frame;
 
-/// Plays a scenario past a turnstile. The headline holds of its record.
-fn play_scenario<T: Turnstile>(
+/// One run in a mode.
+pub(crate) fn run_mode<S: Source, K: Sink, T: Turnstile>(
     alloc: Global,
-    scenario: &Scenario,
-    turnstile: &T,
-) -> Result<Record, OutOfMemory>
-    ensures { IfOk result (λ r. IsPlayed scenario.now r) }
-{
-    let record = play_past(alloc, scenario, turnstile)?;
-    let nodes = ids_of(alloc, scenario.nodes())?;
-    headline_law(&nodes, scenario.founder(), &record.entries);
-    Ok(record)
-}
-
-/// A record, and the text that is to be written of it.
-#[derive(Drop)]
-struct Prepared {
-    record: Record,
-    text: Frame,
-}
-
-/// Plays a scenario, and writes its report into memory.
-fn prepare_report<T: Turnstile>(
-    alloc: Global,
-    scenario: &Scenario,
-    turnstile: &T,
-) -> Result<Prepared, OutOfMemory>
-    ensures { IfOk result (λ p. Prepares report_text scenario.now p.record p.text) }
-{
-    let record = play_scenario(alloc, scenario, turnstile)?;
-    let text = report(alloc, scenario, &record)?;
-    Ok(Prepared { record, text })
-}
-
-/// Plays a scenario, and writes its summary into memory.
-fn prepare_summary<T: Turnstile>(
-    alloc: Global,
-    scenario: &Scenario,
-    turnstile: &T,
-) -> Result<Prepared, OutOfMemory>
-    ensures { IfOk result (λ p. Prepares summary_text scenario.now p.record p.text) }
-{
-    let record = play_scenario(alloc, scenario, turnstile)?;
-    let text = summary(alloc, scenario, &record)?;
-    Ok(Prepared { record, text })
-}
-
-/// Writes a text to a sink, and hands out its record.
-fn write_report<K: Sink>(sink: &mut K, prepared: Prepared) -> Outcome
-    ensures status { result.status ≡ status_of result.fault }
-    ensures fault { (result.fault ≡ None) ⊎ (result.fault ≡ Some TopFault.Write) }
-    ensures played { result.played ≡ Some prepared.record }
-    ensures whole { result.fault ≡ None → IsTaken K.takes K.taken sink.old sink.new prepared.text }
-    ensures part { result.fault ≡ Some TopFault.Write → IsBrokenOff K.takes K.taken sink.old sink.new prepared.text }
-    ensures unwritten { result.fault ≡ Some TopFault.Write → Rose (K.faults sink.old) (K.faults sink.new) }
-    ensures count { K.faults sink.old ≤ K.faults sink.new }
-{
-    let Prepared { record, text } = prepared;
-    match write_all(sink, text.as_slice()) {
-        Ok(()) => Outcome {
-            status: 0,
-            fault: None,
-            played: Some(record),
-        },
-        Err(_) => Outcome {
-            status: 5,
-            fault: Some(TopFault::Write),
-            played: Some(record),
-        },
-    }
-}
-
-/// Reads a scenario from a source, plays it, and writes its report to a sink.
-pub fn play_mode<S: Source, K: Sink, T: Turnstile>(
-    alloc: Global,
+    mode: Mode,
     source: &mut S,
     sink: &mut K,
     turnstile: &T,
 ) -> Outcome
+    requires { HasNodesInRange mode }
     ensures status { result.status ≡ status_of result.fault }
     ensures usage { result.fault ≢ Some TopFault.Usage }
-    ensures done { result.fault ≡ None → HasPlayed (IsScenario (S.left source.old) (S.left source.new)) report_text (IsTaken K.takes K.taken sink.old sink.new) result.played }
-    ensures broken_off { result.fault ≡ Some TopFault.Write → HasPlayed (IsScenario (S.left source.old) (S.left source.new)) report_text (IsBrokenOff K.takes K.taken sink.old sink.new) result.played }
+    ensures done { result.fault ≡ None → IsDone mode S.left source.old source.new (IsTaken K.takes K.taken sink.old sink.new) result.played }
+    ensures broken_off { result.fault ≡ Some TopFault.Write → IsDone mode S.left source.old source.new (IsBrokenOff K.takes K.taken sink.old sink.new) result.played }
     ensures played { IsSome result.played ↔ ((result.fault ≡ None) ⊎ (result.fault ≡ Some TopFault.Write)) }
     ensures nothing_written { IsNone result.played → sink.new ≡ sink.old }
-    ensures refused { (f : Fault) → result.fault ≡ Some (TopFault.Scenario f) → IsRefused (S.left source.old) (S.left source.new) f }
-    ensures unread { result.fault ≡ Some TopFault.Read → Rose (S.faults source.old) (S.faults source.new) }
+    ensures refused { (f : Fault) → result.fault ≡ Some (TopFault.Scenario f) → ReadsScenario mode × IsRefused (S.left source.old) (S.left source.new) f }
+    ensures unread { result.fault ≡ Some TopFault.Read → ReadsScenario mode × Rose (S.faults source.old) (S.faults source.new) }
     ensures unwritten { result.fault ≡ Some TopFault.Write → Rose (K.faults sink.old) (K.faults sink.new) }
-    ensures reads { WasReadByCalls S.gives source.old source.new (result.fault ≡ Some TopFault.Read) }
+    ensures reads { ReadsScenario mode → WasReadByCalls S.gives source.old source.new (result.fault ≡ Some TopFault.Read) }
+    ensures left_alone { ¬ ReadsScenario mode → source.new ≡ source.old }
     ensures source_count { S.faults source.old ≤ S.faults source.new }
     ensures sink_count { K.faults sink.old ≤ K.faults sink.new }
+    ensures due { IsDue mode (Rose (S.faults source.old) (S.faults source.new)) (Rose (K.faults sink.old) (K.faults sink.new)) (S.left source.old) result.fault }
 {
-    let scenario = match read_input(alloc, source) {
-        Ok(scenario) => scenario,
-        Err(fault) => return Outcome::refused(fault),
-    };
-    match prepare_report(alloc, &scenario, turnstile) {
-        Ok(prepared) => write_report(sink, prepared),
-        Err(OutOfMemory) => Outcome::refused(TopFault::OutOfMemory),
-    }
-}
-
-/// Plays the scenario that is made of so many nodes and a seed, and writes its summary to a sink.
-pub fn big_mode<K: Sink, T: Turnstile>(
-    alloc: Global,
-    nodes: u32,
-    seed: u64,
-    sink: &mut K,
-    turnstile: &T,
-) -> Outcome
-    requires some { 2 ≤ nodes }
-    requires few { nodes ≤ MOST_NODES }
-    ensures status { result.status ≡ status_of result.fault }
-    ensures kind { IfSome result.fault IsWritingFault }
-    ensures done { result.fault ≡ None → HasPlayed (λ s. s ≡ made nodes seed) summary_text (IsTaken K.takes K.taken sink.old sink.new) result.played }
-    ensures broken_off { result.fault ≡ Some TopFault.Write → HasPlayed (λ s. s ≡ made nodes seed) summary_text (IsBrokenOff K.takes K.taken sink.old sink.new) result.played }
-    ensures played { IsSome result.played ↔ ((result.fault ≡ None) ⊎ (result.fault ≡ Some TopFault.Write)) }
-    ensures nothing_written { IsNone result.played → sink.new ≡ sink.old }
-    ensures unwritten { result.fault ≡ Some TopFault.Write → Rose (K.faults sink.old) (K.faults sink.new) }
-    ensures count { K.faults sink.old ≤ K.faults sink.new }
-{
-    let scenario = match make_scenario(alloc, nodes, seed) {
-        Ok(scenario) => scenario,
-        Err(OutOfMemory) => return Outcome::refused(TopFault::OutOfMemory),
-    };
-    match prepare_summary(alloc, &scenario, turnstile) {
-        Ok(prepared) => write_report(sink, prepared),
-        Err(OutOfMemory) => Outcome::refused(TopFault::OutOfMemory),
+    match mode {
+        Mode::Play => play_read(alloc, Output::Report, source, sink, turnstile),
+        Mode::Big { nodes, seed } => play_made(alloc, nodes, seed, sink, turnstile),
+        Mode::Trace => play_read(alloc, Output::Trace, source, sink, turnstile),
     }
 }

@@ -5,15 +5,16 @@ ghost use Rattle.std.specs.Rc.{rc_str_bytes};
 ghost use Rattle.outside.specs.Rose.{Rose};
 ghost use Rattle.scenario_reader.specs.declared.fault.LineFault.{LineFault as Fault};
 ghost use Rattle.cli_words.specs.declared.mode.Mode.{Mode as Asked};
-ghost use Rattle.pastry.specs.Asked.{AskFor, AreUsage, NamePlainly};
+ghost use Rattle.pastry.specs.Asked.{AskFor, AskForOneThat, AreUsage, NamePlainly};
+ghost use Rattle.pastry.specs.Due.{IsDue};
 ghost use Rattle.pastry.specs.Faults.{status_of};
 ghost use Rattle.pastry.specs.Reading.{IsRefused};
-ghost use Rattle.pastry.specs.Runs.{HasRun, IsDue};
+ghost use Rattle.pastry.specs.Runs.{IsDone, ReadsScenario};
 ghost use Rattle.pastry.specs.Written.{IsTaken, IsBrokenOff, WasReadByCalls};
 
-use crate::modes::{big_mode, play_mode};
+use crate::modes::run_mode;
 use crate::outcome::{Outcome, TopFault};
-use cli_words::{Mode, WordFault, read_words};
+use cli_words::{WordFault, read_words};
 use outside::{Sink, Source, Turnstile};
 use std::alloc::Global;
 use std::rc::RcStr;
@@ -21,8 +22,8 @@ use std::sync::Wait;
 use std::thread::Threads;
 
 /// One run of the program. The words ask for a mode: `play` reads a scenario from the source, plays it, and writes its report to
-/// the sink; `big` plays a scenario that it makes, and writes its summary. The text is whole in memory before its first byte is
-/// written.
+/// the sink; `trace` does the same, and writes the record itself; `big` plays a scenario that it makes, and writes its summary.
+/// The text is whole in memory before its first byte is written.
 pub fn top<R: Threads + Wait + Sync, S: Source, K: Sink, T: Turnstile + Sync>(
     rt: &R,
     alloc: Global,
@@ -36,22 +37,22 @@ pub fn top<R: Threads + Wait + Sync, S: Source, K: Sink, T: Turnstile + Sync>(
     ensures played { IsSome result.played ↔ ((result.fault ≡ None) ⊎ (result.fault ≡ Some TopFault.Write)) }
     ensures nothing_written { IsNone result.played → sink.new ≡ sink.old }
 
-    // Without a fault the words ask for a mode, and its scenario was played: in `play` the source was read to its end, and what it
-    // had is that scenario; in `big` it was made, and the source is as it was. The record is the scenario's played record, and
-    // the headline holds of it: one owner per key, and one plain table of files. The sink took its whole text, by calls that
-    // offered each time what was left. With a fault of the sink all is the same, but for the text, which breaks off at the call
-    // that failed.
-    ensures done { result.fault ≡ None → HasRun (map rc_str_bytes words.now) S.left source.old source.new (IsTaken K.takes K.taken sink.old sink.new) result.played }
-    ensures broken_off { result.fault ≡ Some TopFault.Write → HasRun (map rc_str_bytes words.now) S.left source.old source.new (IsBrokenOff K.takes K.taken sink.old sink.new) result.played }
+    // Without a fault the words ask for a mode, and its scenario was played: in `play` and `trace` the source was read to its
+    // end, and what it had is that scenario; in `big` it was made, and the source is as it was. The record is the scenario's
+    // played record, and the headline holds of it: one owner per key, and one plain table of files. The sink took its whole
+    // text, by calls that offered each time what was left. With a fault of the sink all is the same, but for the text, which
+    // breaks off at the call that failed.
+    ensures done { result.fault ≡ None → AskForOneThat (map rc_str_bytes words.now) (λ mode. IsDone mode S.left source.old source.new (IsTaken K.takes K.taken sink.old sink.new) result.played) }
+    ensures broken_off { result.fault ≡ Some TopFault.Write → AskForOneThat (map rc_str_bytes words.now) (λ mode. IsDone mode S.left source.old source.new (IsBrokenOff K.takes K.taken sink.old sink.new) result.played) }
 
-    // Each fault has its cause. Want of memory alone is free. The source is as it was unless the words ask for `play`; then it was
-    // read by calls, of which one that failed was the last. So Usage and `big` leave it as it is.
+    // Each fault has its cause. Want of memory alone is free. The source is as it was unless the words ask for a mode that reads
+    // a scenario; then it was read by calls, of which one that failed was the last. So Usage and `big` leave it as it is.
     ensures usage { result.fault ≡ Some TopFault.Usage → AreUsage (map rc_str_bytes words.now) }
     ensures nothing_read { result.fault ≡ Some TopFault.Usage → source.new ≡ source.old }
-    ensures untouched { (source.new ≡ source.old) ⊎ (AskFor (map rc_str_bytes words.now) Mode.Play × WasReadByCalls S.gives source.old source.new (result.fault ≡ Some TopFault.Read)) }
-    ensures left_alone { (nodes seed : ℕ) → NamePlainly (map rc_str_bytes words.now) (Mode.Big nodes seed) → source.new ≡ source.old }
-    ensures refused { (f : Fault) → result.fault ≡ Some (TopFault.Scenario f) → AskFor (map rc_str_bytes words.now) Mode.Play × IsRefused (S.left source.old) (S.left source.new) f }
-    ensures unread { result.fault ≡ Some TopFault.Read → AskFor (map rc_str_bytes words.now) Mode.Play × Rose (S.faults source.old) (S.faults source.new) }
+    ensures untouched { (source.new ≡ source.old) ⊎ (AskForOneThat (map rc_str_bytes words.now) ReadsScenario × WasReadByCalls S.gives source.old source.new (result.fault ≡ Some TopFault.Read)) }
+    ensures left_alone { (mode : Asked) → NamePlainly (map rc_str_bytes words.now) mode → ¬ ReadsScenario mode → source.new ≡ source.old }
+    ensures refused { (f : Fault) → result.fault ≡ Some (TopFault.Scenario f) → AskForOneThat (map rc_str_bytes words.now) ReadsScenario × IsRefused (S.left source.old) (S.left source.new) f }
+    ensures unread { result.fault ≡ Some TopFault.Read → AskForOneThat (map rc_str_bytes words.now) ReadsScenario × Rose (S.faults source.old) (S.faults source.new) }
     ensures unwritten { result.fault ≡ Some TopFault.Write → Rose (K.faults sink.old) (K.faults sink.new) }
     ensures source_count { S.faults source.old ≤ S.faults source.new }
     ensures sink_count { K.faults sink.old ≤ K.faults sink.new }
@@ -68,8 +69,7 @@ pub fn top<R: Threads + Wait + Sync, S: Source, K: Sink, T: Turnstile + Sync>(
 {
     let _ = rt;
     match read_words(alloc, words) {
-        Ok(Mode::Play) => play_mode(alloc, source, sink, turnstile),
-        Ok(Mode::Big { nodes, seed }) => big_mode(alloc, nodes, seed, sink, turnstile),
+        Ok(mode) => run_mode(alloc, mode, source, sink, turnstile),
         Err(WordFault::Usage) => Outcome::refused(TopFault::Usage),
         Err(WordFault::OutOfMemory) => Outcome::refused(TopFault::OutOfMemory),
     }

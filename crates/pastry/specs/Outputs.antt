@@ -1,0 +1,19 @@
+-- What a mode writes of a scenario and its record.
+use Rattle.std.specs.Prelude.{ℕ, List}
+use Rattle.overlay_rules.specs.declared.entry.Record.{Record}
+use Rattle.scenario_reader.specs.Plain.{PlainScenario}
+use Rattle.schedule.specs.Schedule.{setting_of}
+use Rattle.delivery_report.specs.Texts.{report_text, summary_text}
+use Rattle.trace_text.specs.Traces.{trace_of, trace_text}
+use Rattle.pastry.specs.declared.output.Output.{Output}
+use Rattle.pastry.specs.declared.output.Output.TheVariants as output
+
+-- a record as a trace, with the nodes and the founder of its scenario
+abbrev pub played_trace : PlainScenario → Record → List ℕ
+played_trace s r = trace_text (trace_of (setting_of s).nodes (setting_of s).founder r.entries r.skipped)
+
+-- the report, the summary, or the trace
+abbrev pub output_text : Output → PlainScenario → Record → List ℕ
+output_text output.Report s r = report_text s r
+output_text output.Summary s r = summary_text s r
+output_text output.Trace s r = played_trace s r

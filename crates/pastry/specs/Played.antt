@@ -1,0 +1,24 @@
+-- That a scenario was played.
+use Rattle.std.specs.Prelude.{◌≡◌, ℕ, List, Option, Some}
+use Rattle.overlay_rules.specs.declared.entry.Record.{Record}
+use Rattle.overlay_rules.specs.Record.{IsRecord}
+use Rattle.scenario_reader.specs.Plain.{PlainScenario}
+use Rattle.schedule.specs.Schedule.{play_of, setting_of}
+use Rattle.pastry.specs.Headline.{Headline}
+
+-- this record is the played record of the scenario: its entries and skips are those of the play of the actions. It is legal,
+-- and the headline holds of it
+pub record IsPlayed (s : PlainScenario) (r : Record) : Type 0 where
+  pub entries : r.entries ≡ (play_of s).world.past
+  pub skipped : r.skipped ≡ (play_of s).skipped
+  pub legal : IsRecord (setting_of s) r.entries
+  pub headline : Headline (setting_of s) r.entries
+
+-- a scenario of which R says where it comes from was played, and of its text, which `text_of` gives, W says what became of it
+pub record HasPlayed (R : PlainScenario → Type 0) (text_of : PlainScenario → Record → List ℕ) (W : List ℕ → Type 0) (played : Option Record) : Type 0 where
+  pub scenario : PlainScenario
+  pub record_of : Record
+  pub from : R scenario
+  pub is_played : IsPlayed scenario record_of
+  pub same : played ≡ Some record_of
+  pub written : W (text_of scenario record_of)
