@@ -5,3 +5,4 @@ pub mod Growing
 pub mod Serves
 pub mod Putting
 pub mod Gathered
+mod NewPasses

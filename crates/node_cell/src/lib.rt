@@ -21,4 +21,6 @@ pub use fault::CellFault;
 pub use gathering::gather;
 
 #[cfg(test)]
+mod mailbox_tests;
+#[cfg(test)]
 mod tests;
