@@ -1,11 +1,8 @@
 -- Passes of a new post, of which a cell was given its part: as cells begin to serve.
 use Rattle.std.proofs.Common.{◌≡◌, ◌≤◌, ◌<◌, ◌+◌, ℕ, zero, suc, Option, Some, List, [], ◌∷◌, map, length, refl, sym, subst, ap, ◌∙◌, arith}
 use Rattle.std.specs.Prelude.{All, Contains}
-use Rattle.std.specs.List.{sum_by}
 use Rattle.std.proofs.lemmas.List.{length-map}
 use Rattle.std.proofs.lemmas.List.Sums.{sum_by-cons}
-use Rattle.wire_codec.specs.Spelling.{Spells}
-use Rattle.wire_msg.specs.Words.{Envelope}
 use Rattle.overlay_rules.proofs.Each.{Each, Each-all}
 use Rattle.node_mailbox.specs.Pass.{PassView, after_split, fresh_pass, split_off}
 use Rattle.node_mailbox.specs.Post.{PostView, AreOf, pass_at}

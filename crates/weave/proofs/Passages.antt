@@ -14,7 +14,7 @@ use Rattle.overlay_rules.specs.declared.entry.Event.{Event}
 use Rattle.overlay_rules.specs.declared.entry.Entry.{Entry}
 use Rattle.overlay_rules.specs.declared.entry.Record.{Record}
 use Rattle.overlay_rules.specs.Record.{Setting, World, Legal, LegalFrom, sent_in, visit, after, run, world_at_start, world_after, unstamped}
-use Rattle.overlay_rules.proofs.Each.{Each, Each-all, Each-contains, Each-from_all, Each-itself, Each-map, Each-slice_get, Each-weaker}
+use Rattle.overlay_rules.proofs.Each.{Each, Each-all, Each-contains, Each-from_all, Each-itself, Each-map}
 use Rattle.overlay_rules.proofs.Histories.{follows_at, past_after}
 use Rattle.node_cell.proofs.Gathered.{flat_from}
 use Rattle.weave_laws.specs.Answered.{AllSent, IsSentIn}
