@@ -1,6 +1,7 @@
--- How answers to commands are printed.
-use Rattle.std.specs.Prelude.{ℕ, ◌==◌, List, [], ◌∷◌, ◌++◌, Option, Some, None, find, flat_map, codes, decimal}
+-- What answers to commands found, and how answers are printed.
+use Rattle.std.specs.Prelude.{ℕ, ◌==◌, List, [], ◌∷◌, ◌++◌, Option, Some, None, find, flat_map, option_and_then, codes, decimal}
 use Rattle.hex.specs.Hex.{encode_lower}
+use Rattle.ring_math.specs.Names.{Content}
 use Rattle.ring_math.specs.Texts.{text_of}
 use Rattle.wire_msg.specs.declared.reply.Reply.{Reply}
 use Rattle.wire_msg.specs.declared.reply.Reply.TheVariants as reply
@@ -63,3 +64,19 @@ answer_text nodes answer.NothingToGiveUp = codes "nothing to give up"
 abbrev pub closing_text : List NodeLine → Option Answer → List ℕ
 closing_text nodes None = codes "unanswered"
 closing_text nodes (Some a) = answer_text nodes a
+
+-- the bytes that were found by an answer, and by a command that was closed with one
+abbrev pub found_in_reply : Reply → Option Content
+found_in_reply (reply.Found y bytes) = Some bytes
+found_in_reply _ = None
+
+abbrev pub found_in : Answer → Option Content
+found_in (answer.Reply r) = found_in_reply r
+found_in (answer.Joined l r) = None
+found_in (answer.Denied y w) = None
+found_in (answer.Stopped y o) = None
+found_in answer.GaveUp = None
+found_in answer.NothingToGiveUp = None
+
+abbrev pub found_by : Option Answer → Option Content
+found_by closing = option_and_then found_in closing

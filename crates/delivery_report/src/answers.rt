@@ -1,12 +1,23 @@
 //! How commands were closed.
 
 ghost use Rattle.std.specs.Prelude.{◌≡◌, ◌++◌, codes, decimal, OnOk};
-ghost use Rattle.delivery_report.specs.Answers.{name_of, bytes_text, reply_text, why_text, own_text, answer_text};
+ghost use Rattle.std.specs.Option.{option_copied};
+ghost use Rattle.delivery_report.specs.Answers.{name_of, bytes_text, reply_text, why_text, own_text, answer_text, found_in};
 
 use crate::names::Names;
-use ring_math::{Id, OutOfMemory};
+use ring_math::{Bytes, Id, OutOfMemory};
 use text_writer::Text;
 use wire_msg::{Answer, Own, Reply, Why};
+
+/// The bytes that an answer says were found.
+pub fn found_bytes(answer: &Answer) -> Option<&Bytes>
+    ensures { option_copied result ≡ found_in answer.now }
+{
+    match answer {
+        Answer::Reply(Reply::Found { bytes, .. }) => Some(bytes),
+        _ => None,
+    }
+}
 
 /// How a command was closed.
 pub(crate) fn answer(text: &mut Text, names: &Names, answer: &Answer) -> Result<(), OutOfMemory>
@@ -125,8 +136,8 @@ fn with_number(
     text.number_after(number_word, u64::from(number))
 }
 
-/// Bytes in hexadecimal, a dash where there are none.
-fn put_bytes(text: &mut Text, bytes: &[u8]) -> Result<(), OutOfMemory>
+/// Writes bytes in hexadecimal, a dash where there are none. The only error is that memory was refused.
+pub fn put_bytes(text: &mut Text, bytes: &[u8]) -> Result<(), OutOfMemory>
     ensures { OnOk result (text.new ≡ text.old ++ bytes_text bytes.now) }
 {
     if bytes.is_empty() {

@@ -15,7 +15,7 @@ use text_writer::Text;
 use wire_msg::{Answer, Note};
 
 /// How many commands a scenario has.
-pub(crate) fn command_count(scenario: &Scenario) -> u64
+pub fn command_count(scenario: &Scenario) -> u64
     ensures { result ≡ commands_of scenario.now }
 {
     let mut count = 0;
@@ -44,7 +44,8 @@ pub(crate) fn command_lines(
     Ok(())
 }
 
-fn command_line(
+/// Writes the line of a command, by its number and how it was closed. The only error is that memory was refused.
+pub fn command_line(
     text: &mut Text,
     names: &Names,
     number: u64,
@@ -61,8 +62,9 @@ fn command_line(
     text.put(b"\n")
 }
 
-/// How each of so many commands was closed.
-pub(crate) fn closings_of(
+/// How each of so many commands was closed, in the order of their numbers; None where it was not. The only error is that
+/// memory was refused.
+pub fn closings_of(
     alloc: Global,
     commands: u64,
     entries: &Entries,

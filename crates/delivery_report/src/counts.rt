@@ -26,6 +26,14 @@ pub(crate) struct Summary {
     pub(crate) ready: u64,
 }
 
+/// Writes the summary line of a record. The only error is that memory was refused.
+pub fn put_summary(alloc: Global, text: &mut Text, steps: &Record) -> Result<(), OutOfMemory>
+    ensures { (g : Setting) → IsRecord g steps.now.entries → OnOk result (text.new ≡ text.old ++ summary_line (summary_of g steps.now.entries steps.now.skipped)) }
+{
+    let summary = summary_of(alloc, steps)?;
+    summary.write(text)
+}
+
 /// Counts in a record. The founder is ready from the start, and each other node from its joining on.
 pub(crate) fn summary_of(alloc: Global, steps: &Record) -> Result<Summary, OutOfMemory>
     ensures { (g : Setting) → IsRecord g steps.now.entries → IfOk result (λ summary. summary ≡ summary_of g steps.now.entries steps.now.skipped) }

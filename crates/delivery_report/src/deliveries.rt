@@ -12,8 +12,8 @@ use ring_math::{Id, OutOfMemory};
 use text_writer::Text;
 use wire_msg::{Envelope, Note};
 
-/// A line for each delivery, in the order of the record.
-pub(crate) fn delivery_lines(
+/// Writes a line for each delivery, in the order of the record. The only error is that memory was refused.
+pub fn delivery_lines(
     text: &mut Text,
     names: &Names,
     entries: &Entries,
@@ -56,8 +56,9 @@ fn entry_lines(
     }
 }
 
-/// The node of an event, before which these messages were sent.
-fn node_of(sent: &[Envelope], event: &EventRef) -> Option<Id>
+/// The node of an event, before which these messages were sent; None where it delivers a message that was not sent. It takes
+/// no memory.
+pub fn node_of(sent: &[Envelope], event: &EventRef) -> Option<Id>
     ensures { result ≡ node_of (visit (map plain_envelope sent.now) (event_seen event.now)) }
 {
     match event {

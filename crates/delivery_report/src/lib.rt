@@ -15,11 +15,14 @@ mod deliveries;
 mod names;
 mod tally;
 
-use crate::closings::{closings_of, command_count, command_lines};
-use crate::counts::summary_of;
-use crate::deliveries::delivery_lines;
+pub use crate::answers::{found_bytes, put_bytes};
+use crate::closings::command_lines;
+pub use crate::closings::{closings_of, command_count, command_line};
+pub use crate::counts::put_summary;
+pub use crate::deliveries::{delivery_lines, node_of};
 use crate::names::Names;
-use crate::tally::tally_of;
+pub use crate::names::Names as NodeNames;
+pub use crate::tally::tally_of;
 use overlay_rules::Record;
 use ring_math::OutOfMemory;
 use scenario_reader::{NodeLine, Scenario};
@@ -60,11 +63,10 @@ fn report_of(
 {
     let names = Names::of(alloc, nodes)?;
     let entries = &steps.entries;
-    let summary = summary_of(alloc, steps)?;
     let mut text = Text::new(alloc);
     command_lines(alloc, &mut text, &names, commands, entries)?;
     delivery_lines(&mut text, &names, entries)?;
-    summary.write(&mut text)?;
+    put_summary(alloc, &mut text, steps)?;
     Ok(text.into_frame())
 }
 
@@ -73,10 +75,9 @@ fn brief_of(alloc: Global, commands: u64, steps: &Record) -> Result<Frame, OutOf
     ensures { (g : Setting) → IsRecord g steps.now.entries →
         IfOk result (λ text. text ≡ brief_of g commands steps.now.entries steps.now.skipped) }
 {
-    let summary = summary_of(alloc, steps)?;
     let closings = closings_of(alloc, commands, &steps.entries)?;
     let mut text = Text::new(alloc);
-    summary.write(&mut text)?;
+    put_summary(alloc, &mut text, steps)?;
     tally_of(&closings).write(&mut text)?;
     Ok(text.into_frame())
 }

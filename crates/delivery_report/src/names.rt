@@ -14,7 +14,7 @@ use text_writer::Text;
 
 /// The nodes of a scenario, to be found by their identifiers.
 #[derive(Drop)]
-pub(crate) struct Names<'a> {
+pub struct Names<'a> {
     nodes: &'a [NodeLine],
     by_id: BTreeMap<u128, &'a NodeLine>,
 }
@@ -33,7 +33,7 @@ impl<'a> Model for Names<'a> {
 
 impl<'a> Names<'a> {
     /// The nodes at hand. Of two with one identifier the first counts.
-    pub(crate) fn of(alloc: Global, nodes: &'a [NodeLine]) -> Result<Names<'a>, OutOfMemory>
+    pub fn of(alloc: Global, nodes: &'a [NodeLine]) -> Result<Names<'a>, OutOfMemory>
         ensures { IfOk result (λ names. names ≡ nodes.now) }
     {
         let mut by_id = BTreeMap::new(alloc);

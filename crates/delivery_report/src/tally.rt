@@ -10,14 +10,14 @@ use wire_msg::{Answer, Reply};
 
 /// How many commands were closed in which way.
 #[derive(Clone, Copy)]
-pub(crate) struct Tally {
-    pub(crate) joined: u64,
-    pub(crate) denied: u64,
-    pub(crate) stored: u64,
-    pub(crate) found: u64,
-    pub(crate) missing: u64,
-    pub(crate) unanswered: u64,
-    pub(crate) other: u64,
+pub struct Tally {
+    pub joined: u64,
+    pub denied: u64,
+    pub stored: u64,
+    pub found: u64,
+    pub missing: u64,
+    pub unanswered: u64,
+    pub other: u64,
 }
 
 /// A way in which a command was closed.
@@ -34,7 +34,7 @@ pub(crate) enum Outcome {
 }
 
 /// Counts commands by how they were closed.
-pub(crate) fn tally_of(closings: &[Option<&Answer>]) -> Tally
+pub fn tally_of(closings: &[Option<&Answer>]) -> Tally
     ensures { result ≡ tally_of (map option_copied closings.now) }
 {
     Tally {
