@@ -13,11 +13,7 @@ use text_writer::Text;
 use wire_msg::{Envelope, Note};
 
 /// Writes a line for each delivery, in the order of the record. The only error is that memory was refused.
-pub fn delivery_lines(
-    text: &mut Text,
-    names: &Names,
-    entries: &Entries,
-) -> Result<(), OutOfMemory>
+pub fn delivery_lines(text: &mut Text, names: &Names, entries: &Entries) -> Result<(), OutOfMemory>
     ensures { OnOk result (text.new ≡ text.old ++ delivery_lines names.now entries.now) }
 {
     let sent = entries.sent();
