@@ -142,7 +142,7 @@ module _ (g : Setting) (w : World) (acts : List Act) (h : HasPassed g w acts) wh
     sent_somewhere : (k : History) (e : CellEntry) (v : Envelope) → Contains hs k → Contains k.entries e → e.input ≡ Comes v → IsSentIn hs v
     sent_somewhere k e v among there takes =
         let answered : Contains (sent_by acts) v = subst (IsAnswered (sent_by acts)) takes
-            (Each-contains (λ (b : Act). IsAnswered (sent_by acts) b.entry.input) acts (act k.node e) h.answered (of_history k e among there)) in
+        (Each-contains (λ (b : Act). IsAnswered (sent_by acts) b.entry.input) acts (act k.node e) h.answered (of_history k e among there)) in
         let from = flat_from sends acts v answered in
         record {
           history = history_by acts from.0.node;

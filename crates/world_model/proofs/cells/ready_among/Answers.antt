@@ -22,25 +22,25 @@ tells nodes place node b states l is ensures a =
 
 pub loop-place-preserved : goal.loop-place-preserved
 loop-place-preserved c = elim c.if-is_ready.branch [
-    | then-is_ready w ↦ record {
-      below = let e = w.ready-is in let b = c.loop-place.invariant.below in omega arith;
-      counted = λ states a.
-          let long = ids-length c.args.nodes.now in
-          w.ready-is ∙ ap (λ n. n + 1) (c.loop-place.invariant.counted states a)
-          ∙ sym (count_by_more_yes (λ x. is_ready (states x).phase) (ids_of c.args.nodes.now) c.loop-place.place 0 (omega arith)
-            (tells c.args.nodes.now c.loop-place.place c.index-nodes-place.result c.is_ready.result states c.loop-place-test.true c.index-nodes-place.is
-              c.is_ready.ensures a ∙ w.if-is_ready.true));
-    }
-    | else-is_ready w ↦ record {
-      below = let e = w.ready-is in let b = c.loop-place.invariant.below in omega arith;
-      counted = λ states a.
-          let long = ids-length c.args.nodes.now in
-          w.ready-is ∙ c.loop-place.invariant.counted states a
-          ∙ sym (count_by_more_no (λ x. is_ready (states x).phase) (ids_of c.args.nodes.now) c.loop-place.place 0 (omega arith)
-            (tells c.args.nodes.now c.loop-place.place c.index-nodes-place.result c.is_ready.result states c.loop-place-test.true c.index-nodes-place.is
-              c.is_ready.ensures a ∙ w.if-is_ready.false));
-    }
-  ]
+  | then-is_ready w ↦ record {
+    below = let e = w.ready-is in let b = c.loop-place.invariant.below in omega arith;
+    counted = λ states a.
+        let long = ids-length c.args.nodes.now in
+        w.ready-is ∙ ap (λ n. n + 1) (c.loop-place.invariant.counted states a)
+        ∙ sym (count_by_more_yes (λ x. is_ready (states x).phase) (ids_of c.args.nodes.now) c.loop-place.place 0 (omega arith)
+        (tells c.args.nodes.now c.loop-place.place c.index-nodes-place.result c.is_ready.result states c.loop-place-test.true c.index-nodes-place.is
+        c.is_ready.ensures a ∙ w.if-is_ready.true));
+  }
+  | else-is_ready w ↦ record {
+    below = let e = w.ready-is in let b = c.loop-place.invariant.below in omega arith;
+    counted = λ states a.
+        let long = ids-length c.args.nodes.now in
+        w.ready-is ∙ c.loop-place.invariant.counted states a
+        ∙ sym (count_by_more_no (λ x. is_ready (states x).phase) (ids_of c.args.nodes.now) c.loop-place.place 0 (omega arith)
+        (tells c.args.nodes.now c.loop-place.place c.index-nodes-place.result c.is_ready.result states c.loop-place-test.true c.index-nodes-place.is
+        c.is_ready.ensures a ∙ w.if-is_ready.false));
+  }
+]
 
 pub returns : goal.returns
 returns c = λ states a.
