@@ -20,16 +20,11 @@ use Rattle.schedule.proofs.Numbered.{commands_from}
 use Rattle.weave_laws.specs.Cells.{CellInput, Command, Comes, Noise}
 use Rattle.overlay_harness.specs.Stages.{Stage, actions_of, all_budgets, budget_before, commands_to, has_command, is_command_of, said_to}
 use Rattle.overlay_harness.specs.Inputs.{frames_in, is_command, is_frame}
+use Rattle.overlay_harness.specs.Along.{RanAlong, Within}
 use Rattle.overlay_harness.specs.Clauses.{HasItsCommands, IsWithinBudgets}
 use Rattle.overlay_harness.proofs.Numbering.{Among, numbers_between, rules_behind, rules_front, said, tally_append}
 
--- ---- budgets along inputs, of which so many frames came before
-
-abbrev pub Within : List Stage → ℕ → List CellInput → Type 0
-Within stages taken [] = Unit {0}
-Within stages taken (Command n c ∷ inputs) = (taken ≤ budget_before n stages) × Within stages taken inputs
-Within stages taken (Comes v ∷ inputs) = Within stages (suc taken) inputs
-Within stages taken (Noise ∷ inputs) = Within stages (suc taken) inputs
+-- ---- budgets along inputs
 
 frames-cons : (i : CellInput) (inputs : List CellInput) → frames_in (i ∷ inputs) ≡ cond (is_frame i) 1 0 + frames_in inputs
 frames-cons i inputs = sum_by-cons (λ (j : CellInput). cond (is_frame j) 1 0) i inputs
@@ -70,12 +65,6 @@ within_at stages taken (Comes v ∷ inputs) (suc i) n c h e =
 within_at stages taken (Noise ∷ inputs) (suc i) n c h e =
     let rest = within_at stages (suc taken) inputs i n c h e in let one = frames-cons Noise (take i inputs) in omega arith
 
--- what came to a node of which these stages were run
-pub record RanAlong (stages : List Stage) (x : Id) (inputs : List CellInput) : Type 0 where
-  pub commands : HasItsCommands stages x inputs
-  pub within : Within stages 0 inputs
-  pub few : frames_in inputs ≤ all_budgets stages
-
 pub within_budgets : (stages : List Stage) (x : Id) (inputs : List CellInput) → RanAlong stages x inputs → IsWithinBudgets stages inputs
 within_budgets stages x inputs r = record {
   before = λ i n c e. let own = within_at stages 0 inputs i n c r.within e in omega arith;
@@ -87,7 +76,7 @@ within_budgets stages x inputs r = record {
 abbrev HasNone : Number → List Stage → Type 0
 HasNone n stages = Each (λ (s : Stage). has_command n s ≡ false) stages
 
-budgets-push : (stages : List Stage) (s : Stage) → all_budgets (stages ++ s ∷ []) ≡ all_budgets stages + s.budget
+pub budgets-push : (stages : List Stage) (s : Stage) → all_budgets (stages ++ s ∷ []) ≡ all_budgets stages + s.budget
 budgets-push stages s = sum_by_push (λ (t : Stage). t.budget) stages s
 
 before_grows : (n : Number) (stages : List Stage) (s : Stage) → budget_before n stages ≤ budget_before n (stages ++ s ∷ [])
@@ -168,7 +157,7 @@ kept_none (Command n c ∷ inputs) h = absurd (let no : false ≡ true = h.0 in 
 kept_none (Comes v ∷ inputs) h = kept_none inputs h.1
 kept_none (Noise ∷ inputs) h = kept_none inputs h.1
 
-no_frames : (inputs : List CellInput) → AreCommands inputs → frames_in inputs ≡ 0
+pub no_frames : (inputs : List CellInput) → AreCommands inputs → frames_in inputs ≡ 0
 no_frames [] h = refl
 no_frames (Command n c ∷ inputs) h = let one = frames-cons (Command n c) inputs in let rest = no_frames inputs h.1 in omega arith
 no_frames (Comes v ∷ inputs) h = absurd (let no : false ≡ true = h.0 in cc)
@@ -273,3 +262,15 @@ along_more nodes files tally stages s x inputs frames rules r f le = record {
 } where
   commands : List CellInput
   commands = commands_to x s.actions
+
+-- frames that come when the stages are over
+pub along_frames : (stages : List Stage) (x : Id) (inputs frames : List CellInput) → RanAlong stages x inputs → AreFrames frames →
+    frames_in inputs + length frames ≤ all_budgets stages → RanAlong stages x (inputs ++ frames)
+along_frames stages x inputs frames r f le = record {
+  commands = filter-append is_command inputs frames
+      ∙ ap (λ is. filter is_command inputs ++ is) (kept_none frames f)
+      ∙ append-nil (filter is_command inputs)
+      ∙ r.commands;
+  within = Within-append stages 0 inputs frames r.within (frames_within stages (0 + frames_in inputs) frames f);
+  few = (let one = frames-append inputs frames in let all = all_frames frames f in omega arith);
+}

@@ -4,8 +4,9 @@ pub mod Brought
 pub mod Numbering
 pub mod Weights
 pub mod Along
-pub mod Running
 pub mod Hands
+pub mod Counting
+pub mod Running
 pub mod Lasting
 pub mod Together
 pub mod Working

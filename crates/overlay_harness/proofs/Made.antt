@@ -17,13 +17,14 @@ use Rattle.scenario_reader.specs.Tallies.{start, tally_from}
 use Rattle.weave_laws.specs.Cells.{CellEntry, History}
 use Rattle.node_cell.specs.Cell.{Cell, empty_cell}
 use Rattle.weave.specs.Cells.{histories, kept_history, nodes}
+use Rattle.overlay_harness.specs.Once.{TookOnce}
+use Rattle.overlay_harness.specs.Served.{ServedTo}
 use Rattle.overlay_harness.specs.Ran.{inputs_in}
 use Rattle.overlay_harness.specs.Stages.{Stage, actions_of, copies_behind, followed_by, is_settle, stages_from, stages_of, with_first}
 use Rattle.overlay_harness.specs.Whole.{AreCellsOf}
 use Rattle.overlay_harness.specs.Work.{HasNumbersUpTo, IsNumberedUpTo, MayBeTold, fresh_cells}
 use Rattle.overlay_harness.proofs.Numbering.{rules_behind, rules_front}
 use Rattle.overlay_harness.proofs.Serving.{AreStages, numbers_up_to}
-use Rattle.overlay_harness.proofs.Together.{ServedByHand}
 
 not_in : (xs : List ℕ) (x : ℕ) → ((j d : ℕ) → j < length xs → x ≢ slice_index_or xs j d) → is_in xs x ≡ false
 not_in xs x h = elim (cases_Bool (is_in xs x)) [ inl e ↦ (let c = Contains-is_in xs x e in absurd (h c.0 x c.1 (sym c.2))) | inr e ↦ e ]
@@ -58,17 +59,21 @@ fresh_are s = record {
   founders = Each-all (λ (c : Cell). c.is_founder ≡ (c.node == s.founder)) (fresh_cells s) (fresh_founders s.founder s.nodes);
 }
 
-fresh_one : (hs : List History) (x : Id) (founder : Bool) → ServedByHand [] hs (kept_history (empty_cell x founder))
-fresh_one hs x founder = record {
-  along = record { commands = refl; within = tt; few = omega arith };
-  once = record { sent = λ k d lt. absurd (omega arith); once = λ i j d lt inside. absurd (omega arith); no_noise = refl };
-  served = inl (omega arith);
-}
+fresh_one : (hs : List History) (x : Id) (founder : Bool) → ServedTo [] hs (kept_history (empty_cell x founder))
+fresh_one hs x founder = record { along = record { commands = refl; within = tt; few = omega arith }; served = inl (omega arith) }
 
 -- no stage was run
-pub fresh_served : (hs : List History) (founder : ℕ) (lines : List NodeLine) → Each (ServedByHand [] hs) (histories (fresh founder lines))
+pub fresh_served : (hs : List History) (founder : ℕ) (lines : List NodeLine) → Each (ServedTo [] hs) (histories (fresh founder lines))
 fresh_served hs founder [] = tt
 fresh_served hs founder (n ∷ lines) = (fresh_one hs n.id (n.id == founder), fresh_served hs founder lines)
+
+-- and none took anything
+pub fresh_once : (hs : List History) (founder : ℕ) (lines : List NodeLine) → Each (TookOnce hs) (histories (fresh founder lines))
+fresh_once hs founder [] = tt
+fresh_once hs founder (n ∷ lines) = (
+  record { sent = λ k d lt. absurd (omega arith); once = λ i j d lt inside. absurd (omega arith); no_noise = refl },
+  fresh_once hs founder lines,
+)
 
 -- ---- the stages hold all actions, in order
 
@@ -123,7 +128,7 @@ are_stages s rules i d lt = record {
       ∙ sym (append_assoc (actions_of done) next.actions (actions_of behind))
 
 -- so its commands may be told
-pub may_be_told : (stages : List Stage) (s : Stage) (cells : List Cell) → AreStages stages s → Each (ServedByHand stages (histories cells)) (histories cells) →
+pub may_be_told : (stages : List Stage) (s : Stage) (cells : List Cell) → AreStages stages s → Each (ServedTo stages (histories cells)) (histories cells) →
     MayBeTold cells s.actions
 may_be_told stages s cells a h = record {
   nodes = a.nodes;
@@ -139,7 +144,7 @@ may_be_told stages s cells a h = record {
   entries [] k = tt
   entries (e ∷ es) k = (k.0, entries es k.1)
 
-  each : (cs : List Cell) → Each (ServedByHand stages (histories cells)) (histories cs) → Each (HasNumbersUpTo most) cs
+  each : (cs : List Cell) → Each (ServedTo stages (histories cells)) (histories cs) → Each (HasNumbersUpTo most) cs
   each [] k = tt
   each (c ∷ cs) k = (
     Each-all (λ (e : CellEntry). IsNumberedUpTo most e.input) c.history

@@ -20,11 +20,13 @@ use Rattle.weave_laws.proofs.Lawful.{history_in, woven_is_legal}
 use Rattle.weave_laws.proofs.OneMore.{history_is_given}
 use Rattle.weave_laws.proofs.Parts.{StandsIn, stand_in}
 use Rattle.overlay_harness.specs.Stages.{Stage, most_copies, stages_of}
-use Rattle.overlay_harness.specs.Inputs.{history_at, inputs_at}
+use Rattle.overlay_harness.specs.Enough.{CameAtMost, delivered}
+use Rattle.overlay_harness.specs.Inputs.{envelopes_in, history_at, inputs_at}
 use Rattle.overlay_harness.specs.Clauses.{HasItsCommands, HasItsNoise, IsServed, IsWithinBudgets, WasSentEnough, is_late}
-use Rattle.overlay_harness.specs.Ran.{RanStages, SentInTime, all_sent, inputs_in}
+use Rattle.overlay_harness.specs.Ran.{KeptStages, RanStages, SentInTime, all_sent, inputs_in}
 use Rattle.overlay_harness.specs.Run.{IsRunAt, IsRunOf, WasSentInTime, is_late_event}
 use Rattle.overlay_harness.proofs.Brought.{inputs_are}
+use Rattle.overlay_harness.proofs.Counting.{brought_weigh}
 use Rattle.overlay_harness.proofs.Weights.{sent_weigh}
 
 sent_is : (sent : List Envelope) (acts : List Act) (es : List Entry) → AllZip (IsEntryOf sent) acts es → sent_in es ≡ flat_map (λ (a : Act). a.entry.sent) acts
@@ -96,19 +98,29 @@ in_time stages hs r w v s =
 
 -- ---- at each node
 
-run_at : (stages : List Stage) (hs : List History) (r : Record) → (w : IsWoven hs r) → all_differ (nodes_of hs) ≡ true → (h : History) →
-    inputs_at h.node r.entries ≡ inputs_in h → RanStages stages hs h → IsRunAt stages r.entries h.node
-run_at stages hs r w d h same ran = record {
-  commands = subst (HasItsCommands stages h.node) (sym same) ran.commands;
-  budgets = subst (IsWithinBudgets stages) (sym same) ran.budgets;
-  served = subst (IsServed stages (WasSentInTime stages r.entries) h.node) (sym same) (served ran.served);
+-- what a history keeps, and what came in it of what the record has as sent
+pub record RunsIn (stages : List Stage) (hs : List History) (r : Record) (h : History) : Type 0 where
+  pub kept : KeptStages stages hs h
+  pub noise : HasItsNoise stages h.node (inputs_in h)
+  pub sent : WasSentEnough stages (sent_in r.entries) (inputs_in h)
+
+run_at : (stages : List Stage) (hs : List History) (r : Record) → (w : IsWoven hs r) → (h : History) →
+    inputs_at h.node r.entries ≡ inputs_in h → RunsIn stages hs r h → IsRunAt stages r.entries h.node
+run_at stages hs r w h same ran = record {
+  commands = subst (HasItsCommands stages h.node) (sym same) ran.kept.commands;
+  budgets = subst (IsWithinBudgets stages) (sym same) ran.kept.budgets;
+  served = subst (IsServed stages (WasSentInTime stages r.entries) h.node) (sym same) (served ran.kept.served);
   noise = subst (HasItsNoise stages h.node) (sym same) ran.noise;
-  sent = subst (WasSentEnough stages (sent_in r.entries)) (sym same) sent;
+  sent = subst (WasSentEnough stages (sent_in r.entries)) (sym same) ran.sent;
 } where
   served : IsServed stages (SentInTime stages hs) h.node (inputs_in h) → IsServed stages (WasSentInTime stages r.entries) h.node (inputs_in h)
   served (inl full) = inl full
   served (inr none) = inr (λ v s m. none v (in_time stages hs r w v s) m)
 
+-- what came enough of what the histories sent, came enough of what the record has as sent
+pub runs_in : (stages : List Stage) (hs : List History) (r : Record) → IsWoven hs r → all_differ (nodes_of hs) ≡ true → (h : History) →
+    RanStages stages hs h → RunsIn stages hs r h
+runs_in stages hs r w d h ran = record { kept = ran.kept; noise = ran.noise; sent = sent } where
   sent : WasSentEnough stages (sent_in r.entries) (inputs_in h)
   sent weight =
       let own = ran.sent weight in
@@ -118,10 +130,23 @@ run_at stages hs r w d h same ran = record {
       let all = mul-le-mul_left {m = sum_by weight (all_sent hs)} {n = sum_by weight (sent_in r.entries)} (most_copies stages) (omega arith) in
       omega arith
 
+-- what the record delivered, it brought to one of the nodes
+pub runs_counted : (g : Setting) (stages : List Stage) (hs : List History) (r : Record) → IsWoven hs r → AreHistories g hs →
+    CameAtMost (most_copies stages) (sent_in r.entries) (delivered (sent_in r.entries) r.entries) → (h : History) → Contains hs h →
+    KeptStages stages hs h → HasItsNoise stages h.node (inputs_in h) → RunsIn stages hs r h
+runs_counted g stages hs r w own enough h c kept noise = record { kept = kept; noise = noise; sent = sent } where
+  sent : WasSentEnough stages (sent_in r.entries) (inputs_in h)
+  sent weight =
+      let same : sum_by weight (envelopes_in (inputs_at h.node r.entries)) ≡ sum_by weight (envelopes_in (inputs_in h)) =
+      ap (λ is. sum_by weight (envelopes_in is)) (inputs_are g hs r own w h c) in
+      let some = brought_weigh weight h.node (sent_in r.entries) r.entries in
+      let all = enough weight in
+      omega arith
+
 -- what each history of them keeps makes the record a run of the scenario
-pub woven_is_run : (s : PlainScenario) (hs : List History) (r : Record) → nodes_of hs ≡ ids s.nodes → all_differ (nodes_of hs) ≡ true →
-    AreHistories (setting_of s) hs → All (RanStages (stages_of s) hs) hs → IsWoven hs r → IsRunOf s r
-woven_is_run s hs r nodes d own ran w = record {
+pub woven_is_run : (s : PlainScenario) (hs : List History) (r : Record) → nodes_of hs ≡ ids s.nodes → AreHistories (setting_of s) hs →
+    Each (RunsIn (stages_of s) hs r) hs → IsWoven hs r → IsRunOf s r
+woven_is_run s hs r nodes own ran w = record {
   legal = woven_is_legal (setting_of s) hs r own w;
   whole = w.skipped;
   at_each = subst (All (IsRunAt (stages_of s) r.entries)) nodes each;
@@ -131,8 +156,8 @@ woven_is_run s hs r nodes d own ran w = record {
   each =
       Each-all (IsRunAt (stages_of s) r.entries) (nodes_of hs)
       (of_nodes hs (Each-weaker (Contains hs) (λ (h : History). IsRunAt (stages_of s) r.entries h.node) hs
-      (λ h c. run_at (stages_of s) hs r w d h (inputs_are (setting_of s) hs r own w h c)
-      (Each-contains (RanStages (stages_of s) hs) hs h (Each-from_all (RanStages (stages_of s) hs) hs ran) c)) (Each-itself hs))) where
+      (λ h c. run_at (stages_of s) hs r w h (inputs_are (setting_of s) hs r own w h c)
+      (Each-contains (RunsIn (stages_of s) hs r) hs h ran c)) (Each-itself hs))) where
         of_nodes : (ks : List History) → Each (λ (h : History). IsRunAt (stages_of s) r.entries h.node) ks →
             Each (IsRunAt (stages_of s) r.entries) (nodes_of ks)
         of_nodes [] e = tt

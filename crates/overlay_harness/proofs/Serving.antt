@@ -23,28 +23,29 @@ use Rattle.weave_laws.specs.Cells.{CellEntry, CellInput, Command, Comes, Noise, 
 use Rattle.node_cell.specs.Cell.{Cell, entry_next, with_input}
 use Rattle.weave.specs.Cells.{histories, kept_history}
 use Rattle.weave.specs.Unread.{AllRead, IsTakenByNone}
+use Rattle.overlay_harness.specs.Along.{RanAlong}
 use Rattle.overlay_harness.specs.Stages.{Stage, actions_of, commands_to, is_command_of, said_to}
 use Rattle.overlay_harness.specs.Inputs.{frames_in, is_command, is_frame}
 use Rattle.overlay_harness.specs.Clauses.{IsMissing, IsServed}
 use Rattle.overlay_harness.specs.Hand.{AllTookUpTo, IsDone, ServedWhole, TookUpTo, ends_after}
 use Rattle.overlay_harness.specs.Once.{AllTookOnce, TookOnce}
+use Rattle.overlay_harness.specs.Served.{ServedTo}
 use Rattle.overlay_harness.specs.Ran.{SentInTime, inputs_in}
 use Rattle.overlay_harness.specs.Work.{IsNumberedUpTo, told, with_inputs}
-use Rattle.overlay_harness.proofs.Along.{RanAlong, all_frames, are_commands, along_more, frames-append}
+use Rattle.overlay_harness.proofs.Along.{all_frames, are_commands, along_more, frames-append}
 use Rattle.overlay_harness.proofs.Hands.{Grew, told_once}
 use Rattle.overlay_harness.proofs.HandOver.{longer}
 use Rattle.overlay_harness.proofs.Lasting.{IsOfStage, WasTold, served_anew, served_before}
 use Rattle.overlay_harness.proofs.Numbering.{Among, numbers_between, said}
-use Rattle.overlay_harness.proofs.Together.{ServedByHand}
 use Rattle.overlay_harness.proofs.Working.{founder_after, inputs_after, node_after}
 
 -- ---- the whole stage
 
-length_after : (c : Cell) (inputs : List CellInput) → length (with_inputs c inputs).history ≡ length c.history + length inputs
+pub length_after : (c : Cell) (inputs : List CellInput) → length (with_inputs c inputs).history ≡ length c.history + length inputs
 length_after c [] = omega arith
 length_after c (i ∷ inputs) = let rest = length_after (with_input c i) inputs in let one = longer c i in omega arith
 
-come_as_frames : (vs : List Envelope) → Each (λ (i : CellInput). is_frame i ≡ true) (map Comes vs)
+pub come_as_frames : (vs : List Envelope) → Each (λ (i : CellInput). is_frame i ≡ true) (map Comes vs)
 come_as_frames [] = tt
 come_as_frames (v ∷ vs) = (refl, come_as_frames vs)
 
@@ -240,7 +241,7 @@ never_here v es e none c = Each-contains (λ (d : CellEntry). d.input ≢ Comes 
   each [] k = tt
   each (d ∷ es) k = (k.0, each es k.1)
 
-none_missing : (stages : List Stage) (hs : List History) (h : History) → all_differ (nodes_of hs) ≡ true → AreAddressed hs → Contains hs h →
+pub none_missing : (stages : List Stage) (hs : List History) (h : History) → all_differ (nodes_of hs) ≡ true → AreAddressed hs → Contains hs h →
     AllRead hs h.node → (v : Envelope) → SentInTime stages hs v → IsMissing h.node (inputs_in h) v → ⊥
 none_missing stages hs h d addressed c read v s m =
     read.none s.history.node s.stands.0 s.sent.0 v
@@ -293,7 +294,7 @@ abbrev frame_list : List CellInput → Type 0
 frame_list frames = Each (λ (i : CellInput). is_frame i ≡ true) frames
 
 along_one : (stages : List Stage) (s : Stage) (hs ks : List History) (old new : Cell) → AreStages stages s → ServedWhole s ks old new →
-    ServedByHand stages hs (kept_history old) → RanAlong (stages ++ s ∷ []) new.node (inputs_in (kept_history new))
+    ServedTo stages hs (kept_history old) → RanAlong (stages ++ s ∷ []) new.node (inputs_in (kept_history new))
 along_one stages s hs ks old new a w h =
     let frames : frame_list w.work.frames = Each-from_all (λ (i : CellInput). is_frame i ≡ true) w.work.frames w.work.are in
     subst (λ x. RanAlong (stages ++ s ∷ []) x (inputs_in (kept_history new))) (sym (node_whole s ks old new w))
@@ -302,7 +303,7 @@ along_one stages s hs ks old new a w h =
 
 served_one : (stages : List Stage) (s : Stage) (olds news : List Cell) (old new : Cell) → all_differ (nodes_of (histories news)) ≡ true →
     AreAddressed (histories news) → AllZip (ServedWhole s (histories news)) olds news → Contains (histories news) (kept_history new) →
-    ServedWhole s (histories news) old new → ServedByHand stages (histories olds) (kept_history old) →
+    ServedWhole s (histories news) old new → ServedTo stages (histories olds) (kept_history old) →
     IsServed (stages ++ s ∷ []) (SentInTime (stages ++ s ∷ []) (histories news)) new.node (inputs_in (kept_history new))
 served_one stages s olds news old new d addressed z c w h = by s.budget refl where
   ks : List History
@@ -334,25 +335,23 @@ served_one stages s olds news old new d addressed z c w h = by s.budget refl whe
   by (suc n) e = served_anew stages s ks new.node (inputs_in (kept_history new)) (omega arith) (anew w.whole)
 
 pub served_more : (stages : List Stage) (s : Stage) (olds news : List Cell) → AreStages stages s → all_differ (nodes_of (histories news)) ≡ true →
-    AreAddressed (histories news) → AllZip (ServedWhole s (histories news)) olds news → Each (TookOnce (histories news)) (histories news) →
-    Each (ServedByHand stages (histories olds)) (histories olds) → Each (ServedByHand (stages ++ s ∷ []) (histories news)) (histories news)
-served_more stages s olds news a d addressed z once h = each olds news z once h (Each-itself (histories news)) where
+    AreAddressed (histories news) → AllZip (ServedWhole s (histories news)) olds news →
+    Each (ServedTo stages (histories olds)) (histories olds) → Each (ServedTo (stages ++ s ∷ []) (histories news)) (histories news)
+served_more stages s olds news a d addressed z h = each olds news z h (Each-itself (histories news)) where
   ks : List History
   ks = histories news
 
-  each : (os ns : List Cell) → AllZip (ServedWhole s ks) os ns → Each (TookOnce ks) (histories ns) →
-      Each (ServedByHand stages (histories olds)) (histories os) →
-      Each (Contains ks) (histories ns) → Each (ServedByHand (stages ++ s ∷ []) ks) (histories ns)
-  each [] [] w t k c = tt
-  each [] (n ∷ ns) w t k c = absurd w
-  each (o ∷ os) [] w t k c = absurd w
-  each (o ∷ os) (n ∷ ns) w t k c = (
+  each : (os ns : List Cell) → AllZip (ServedWhole s ks) os ns → Each (ServedTo stages (histories olds)) (histories os) →
+      Each (Contains ks) (histories ns) → Each (ServedTo (stages ++ s ∷ []) ks) (histories ns)
+  each [] [] w k c = tt
+  each [] (n ∷ ns) w k c = absurd w
+  each (o ∷ os) [] w k c = absurd w
+  each (o ∷ os) (n ∷ ns) w k c = (
     record {
       along = along_one stages s (histories olds) ks o n a w.0 k.0;
-      once = t.0;
       served = served_one stages s olds news o n d addressed z c.0 w.0 k.0;
     },
-    each os ns w.1 t.1 k.1 c.1,
+    each os ns w.1 k.1 c.1,
   )
 
 -- ---- numbers of the commands so far

@@ -14,8 +14,9 @@ use Rattle.overlay_harness.specs.Stages.{Stage, actions_of, commands_to, most_co
 use Rattle.overlay_harness.specs.Inputs.{envelopes_in, is_command}
 use Rattle.overlay_harness.specs.Clauses.{HasItsCommands, IsServed, WasSentEnough}
 use Rattle.overlay_harness.specs.Once.{SentBySome, TookOnce}
-use Rattle.overlay_harness.specs.Ran.{RanStages, SentInTime, all_sent, inputs_in}
-use Rattle.overlay_harness.proofs.Along.{RanAlong, within_budgets}
+use Rattle.overlay_harness.specs.Served.{ServedTo}
+use Rattle.overlay_harness.specs.Ran.{KeptStages, RanStages, SentInTime, all_sent, inputs_in}
+use Rattle.overlay_harness.proofs.Along.{within_budgets}
 use Rattle.overlay_harness.proofs.Hands.{sent_among, weigh_once}
 use Rattle.overlay_harness.proofs.Numbering.{Among, one_node}
 
@@ -71,17 +72,14 @@ sent_enough stages hs h t = λ weight.
     let more = no_more (most_copies stages) (sum_by weight (all_sent hs)) (some_copies stages) in
     omega arith
 
--- what was served by hand
-pub record ServedByHand (stages : List Stage) (hs : List History) (h : History) : Type 0 where
-  pub along : RanAlong stages h.node (inputs_in h)
-  pub once : TookOnce hs h
-  pub served : IsServed stages (SentInTime stages hs) h.node (inputs_in h)
+pub kept_stages : (stages : List Stage) (hs : List History) (h : History) → ServedTo stages hs h → KeptStages stages hs h
+kept_stages stages hs h s =
+    record { commands = s.along.commands; budgets = within_budgets stages h.node (inputs_in h) s.along; served = s.served }
 
-pub by_hand : (stages : List Stage) (hs : List History) (h : History) → ServedByHand stages hs h → RanStages stages hs h
-by_hand stages hs h s = record {
-  commands = s.along.commands;
-  budgets = within_budgets stages h.node (inputs_in h) s.along;
-  served = s.served;
-  noise = (let none = s.once.no_noise in omega arith);
-  sent = sent_enough stages hs h s.once;
+-- what took each envelope once besides
+pub by_hand : (stages : List Stage) (hs : List History) (h : History) → ServedTo stages hs h → TookOnce hs h → RanStages stages hs h
+by_hand stages hs h s t = record {
+  kept = kept_stages stages hs h s;
+  noise = (let none = t.no_noise in omega arith);
+  sent = sent_enough stages hs h t;
 }

@@ -50,7 +50,7 @@ nodes_told actions [] = refl
 nodes_told actions (c ∷ cells) =
     ap (λ x. x ∷ nodes (map (told actions) cells)) (node_after c (commands_to c.node actions)) ∙ ap (λ xs. c.node ∷ xs) (nodes_told actions cells)
 
-told-append : (xs ys : List Action) (c : Cell) → told (xs ++ ys) c ≡ told ys (told xs c)
+pub told-append : (xs ys : List Action) (c : Cell) → told (xs ++ ys) c ≡ told ys (told xs c)
 told-append xs ys c =
     ap (with_inputs c) (commands-append c.node xs ys)
     ∙ inputs-append c (commands_to c.node xs) (commands_to c.node ys)
@@ -86,7 +86,7 @@ pub said_no_other : (a : Action) (x y : Id) (n : Number) (command : NodeCommand)
 said_no_other a x y n command h ne =
     ap (said_to y) h.is ∙ cond-false (x == y) (Command n command ∷ []) [] (ne_eqb x y (λ e. ne (sym e)))
 
-told_own : (a : Action) (c : Cell) (n : Number) (command : NodeCommand) → IsCommandOf a c.node n command → told (a ∷ []) c ≡ with_input c (Command n command)
+pub told_own : (a : Action) (c : Cell) (n : Number) (command : NodeCommand) → IsCommandOf a c.node n command → told (a ∷ []) c ≡ with_input c (Command n command)
 told_own a c n command h = ap (λ is. with_inputs c (is ++ [])) (said_own a c.node n command h)
 
 later_apart : (x : Id) (cells : List Cell) → not (is_in (nodes cells) x) ≡ true → Each (λ (d : Cell). d.node ≢ x) cells

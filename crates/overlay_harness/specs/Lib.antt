@@ -1,7 +1,9 @@
 pub mod Stages
 pub mod Inputs
 pub mod Clauses
+pub mod Along
 pub mod Run
+pub mod Enough
 pub mod Ran
 pub mod Once
 pub mod Fault
@@ -10,3 +12,4 @@ pub mod Work
 pub mod Hand
 pub mod Whole
 pub mod Time
+pub mod Served

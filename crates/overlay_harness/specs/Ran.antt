@@ -26,10 +26,14 @@ pub record SentInTime (stages : List Stage) (hs : List History) (v : Envelope) :
   pub in_time : is_late stages entry.input ≡ false
   pub sent : Contains entry.sent v
 
--- one of the histories after these stages: what a run of them keeps at its node
-pub record RanStages (stages : List Stage) (hs : List History) (h : History) : Type 0 where
+-- one of the histories after these stages: what a run of them keeps at its node, however often a mailbox hands out a frame
+pub record KeptStages (stages : List Stage) (hs : List History) (h : History) : Type 0 where
   pub commands : HasItsCommands stages h.node (inputs_in h)
   pub budgets : IsWithinBudgets stages (inputs_in h)
   pub served : IsServed stages (SentInTime stages hs) h.node (inputs_in h)
+
+-- and all that a run of them keeps there
+pub record RanStages (stages : List Stage) (hs : List History) (h : History) : Type 0 where
+  pub kept : KeptStages stages hs h
   pub noise : HasItsNoise stages h.node (inputs_in h)
   pub sent : WasSentEnough stages (all_sent hs) (inputs_in h)

@@ -8,13 +8,18 @@ use Rattle.weave.specs.declared.fault.WeaveFault.{WeaveFault}
 use Rattle.weave.specs.declared.fault.WeaveFault.TheVariants as fault
 use Rattle.overlay_harness.specs.Inputs.{envelopes_in}
 use Rattle.overlay_harness.specs.Once.{SentBySome}
-use Rattle.overlay_harness.specs.Ran.{RanStages, inputs_in}
+use Rattle.overlay_harness.specs.Ran.{KeptStages, RanStages, inputs_in}
 use Rattle.overlay_harness.specs.Stages.{stages_of}
 
 -- they are the cells of its nodes
 pub record AreCellsOf (s : PlainScenario) (cells : List Cell) : Type 0 where
   pub nodes_are : nodes cells ≡ ids s.nodes
   pub founders : All (λ (c : Cell). c.is_founder ≡ (c.node == s.founder)) cells
+
+-- they are the cells of its nodes, each of which ran its stages, however often a mailbox handed out a frame
+pub record HaveKept (s : PlainScenario) (cells : List Cell) : Type 0 where
+  pub cells_are : AreCellsOf s cells
+  pub kept : All (KeptStages (stages_of s) (histories cells)) (histories cells)
 
 -- each envelope that came was sent by one of them
 abbrev pub TookWhatWasSent : List History → Type 0

@@ -1,11 +1,13 @@
 //! Stages that are served by hand, on one thread.
 
-ghost use Rattle.std.specs.Prelude.{◌≡◌, ◌<◌, All, IfOk, IfSome, IfNone, OnOk, length};
+ghost use Rattle.std.specs.Prelude.{◌≡◌, ◌<◌, All, IfOk, IfSome, IfNone, OnOk, length, map, take};
 ghost use Rattle.std.specs.List.{AllZip};
 ghost use Rattle.weave.specs.Cells.{HasNoPasses, HaveOwnNodes, IsLawful, histories, nodes};
 ghost use Rattle.overlay_harness.specs.Hand.{AllTookUpTo, IsDone, IsDoneAt, IsFrameOf, IsNext, ServedWhole, ends_after};
 ghost use Rattle.overlay_harness.specs.Once.{AllTookOnce};
+ghost use Rattle.overlay_harness.specs.Served.{IsServedTo};
 ghost use Rattle.overlay_harness.specs.Shown.{shown};
+ghost use Rattle.overlay_harness.specs.Stages.{stages_of};
 ghost use Rattle.overlay_harness.specs.Work.{MayBeTold};
 
 use crate::cells::cells_law;
@@ -13,10 +15,32 @@ use crate::stage::Stage;
 use crate::telling::tell_all;
 use node_cell::{CellFault, NodeCell};
 use ring_math::OutOfMemory;
+use scenario_reader::Scenario;
 use std::alloc::Global;
 use weave::{Unread, unread};
 use wire_codec::encode;
 use wire_msg::Frame;
+
+/// Serves stages by hand, one after another, from this one on, to cells that were served those before it.
+pub(crate) fn serve_stages(
+    alloc: Global,
+    scenario: &Scenario,
+    cells: &mut [NodeCell],
+    stages: &[Stage<'_>],
+    first: usize,
+) -> Result<(), CellFault>
+    requires stages { map shown stages.now ≡ stages_of scenario.now }
+    requires served { IsServedTo scenario.now (map shown (take first stages.now)) cells.old }
+    ensures served { OnOk result (IsServedTo scenario.now (stages_of scenario.now) cells.new) }
+    ensures once { AllTookOnce (histories cells.old) → OnOk result (AllTookOnce (histories cells.new)) }
+    ensures nodes { nodes cells.new ≡ nodes cells.old }
+{
+    let _founder = scenario.founder();
+    for place in first..stages.len() {
+        serve_by_hand(alloc, cells, &stages[place])?;
+    }
+    Ok(())
+}
 
 /// Serves a stage by hand: submits its commands in order, and then hands over what is unread until each node took as many frames
 /// as the stage has budget, or nothing is unread for it.

@@ -5,10 +5,11 @@
 #![tactic(auto)]
 
 mod cells;
+mod enough;
 mod fault;
 mod hand;
 mod limits;
-mod run;
+mod runs;
 mod stage;
 mod telling;
 mod unfit;
@@ -17,7 +18,7 @@ pub use cells::new_cells;
 pub use fault::RunFault;
 pub use hand::{hand_over_unread, serve_by_hand};
 pub use limits::MOST_RUN_NODES;
-pub use run::{cells_served_by_hand, run_by_hand, woven_run};
+pub use runs::{cells_served_by_hand, run_by_hand, tested_run, woven_run};
 pub use stage::{Stage, stages};
 pub use telling::tell_all;
 pub use unfit::first_unfit_line;

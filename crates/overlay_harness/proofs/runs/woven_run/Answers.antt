@@ -1,6 +1,6 @@
 use Rattle.overlay_harness.proofs.Ending.{only_memory, run_of}
 use Rattle.overlay_harness.proofs.Made.{own_nodes}
-use Rattle.overlay_harness.proofs.run.woven_run.Goals as goal
+use Rattle.overlay_harness.proofs.runs.woven_run.Goals as goal
 
 pub weave-requires : goal.weave-requires
 weave-requires c = own_nodes c.args.scenario.now c.args.cells.now c.founder-founder.ensures.rules c.requires.cells_are

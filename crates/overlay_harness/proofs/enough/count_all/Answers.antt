@@ -1,0 +1,30 @@
+use Rattle.std.proofs.Common.{◌≡◌, ◌+◌, ◌++◌, ◌∷◌, [], List, take, get_or, subst, sym, ap, ◌∙◌, arith}
+use Rattle.std.proofs.lemmas.List.{take_all, take_more}
+use Rattle.std.proofs.lemmas.Option.{get_or_from_slice_get, slice_get_within}
+use Rattle.wire_msg.specs.Words.{Envelope}
+use Rattle.overlay_rules.specs.declared.entry.Entry.{Entry}
+use Rattle.overlay_rules.specs.Record.{sent_in}
+use Rattle.overlay_rules.specs.Seen.{entry_seen}
+use Rattle.overlay_harness.specs.Enough.{AreCountedDown}
+use Rattle.overlay_harness.proofs.Counting.{counted_more, counted_none}
+use Rattle.overlay_harness.proofs.enough.count_all.Goals as goal
+
+pub loop-place-init : goal.loop-place-init
+loop-place-init c = counted_none c.args.left.now (sent_in c.args.entries.now) c.requires
+
+pub loop-place-preserved : goal.loop-place-preserved
+loop-place-preserved c =
+    let es : List Entry = c.args.entries.now in
+    let sent : List Envelope = sent_in es in
+    let i = c.loop-place.place in
+    let e : Entry = entry_seen c.at-entry.result in
+    let next : take (i + 1) es ≡ take i es ++ e ∷ [] =
+    take_more es i e (slice_get_within es i e c.at-entry.ensures)
+    ∙ ap (λ (d : Entry). take i es ++ d ∷ []) (get_or_from_slice_get es i e e c.at-entry.ensures) in
+    subst (λ (ds : List Entry). AreCountedDown c.args.left.now sent ds c.count_down.new.left) (sym next)
+    (counted_more c.args.left.now c.loop-place.left c.count_down.new.left sent (take i es) e c.loop-place.invariant
+    (c.count_down.ensures c.if-not-count_down.false))
+
+pub returns : goal.returns
+returns c = λ yes. subst (λ (ds : List Entry). AreCountedDown c.args.left.now (sent_in c.args.entries.now) ds c.loop-place.left)
+    (take_all c.loop-place.place c.args.entries.now (omega arith)) c.loop-place.invariant
