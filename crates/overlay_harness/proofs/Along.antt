@@ -21,7 +21,7 @@ use Rattle.weave_laws.specs.Cells.{CellInput, Command, Comes, Noise}
 use Rattle.overlay_harness.specs.Stages.{Stage, actions_of, all_budgets, budget_before, commands_to, has_command, is_command_of, said_to}
 use Rattle.overlay_harness.specs.Inputs.{frames_in, is_command, is_frame}
 use Rattle.overlay_harness.specs.Along.{RanAlong, Within}
-use Rattle.overlay_harness.specs.Clauses.{HasItsCommands, IsWithinBudgets}
+use Rattle.overlay_harness.specs.Clauses.{IsWithinBudgets}
 use Rattle.overlay_harness.proofs.Numbering.{Among, numbers_between, rules_behind, rules_front, said, tally_append}
 
 -- ---- budgets along inputs

@@ -19,7 +19,7 @@ use Rattle.weave_laws.specs.Histories.{AreHistories}
 use Rattle.weave_laws.specs.Numbers.{ShareNoNumber}
 use Rattle.weave_laws.specs.Woven.{IsWoven}
 use Rattle.node_cell.specs.Cell.{Cell}
-use Rattle.weave.specs.Cells.{AreOneRing, HasNoPasses, IsLawful, histories, kept_history, nodes}
+use Rattle.weave.specs.Cells.{AreOneRing, HasNoPasses, IsLawful, histories, nodes}
 use Rattle.weave.specs.Stray.{IsDueTo, IsSentByNone}
 use Rattle.weave.specs.declared.fault.WeaveFault.{WeaveFault}
 use Rattle.weave.specs.declared.fault.WeaveFault.TheVariants as fault

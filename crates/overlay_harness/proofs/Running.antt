@@ -9,7 +9,7 @@ use Rattle.overlay_rules.specs.declared.entry.Event.{Event}
 use Rattle.overlay_rules.specs.declared.entry.Entry.{Entry}
 use Rattle.overlay_rules.specs.declared.entry.Record.{Record}
 use Rattle.overlay_rules.specs.Record.{Setting, all_differ, sent_in}
-use Rattle.overlay_rules.proofs.Each.{Each, Each-all, Each-contains, Each-from_all, Each-itself, Each-weaker}
+use Rattle.overlay_rules.proofs.Each.{Each, Each-all, Each-contains, Each-itself, Each-weaker}
 use Rattle.scenario_reader.specs.Plain.{PlainScenario, ids}
 use Rattle.schedule.specs.Schedule.{setting_of}
 use Rattle.weave_laws.specs.Cells.{CellEntry, CellInput, Command, Comes, Noise, History, nodes_of}

@@ -12,10 +12,10 @@ use Rattle.weave_laws.specs.Cells.{CellEntry, CellInput, Command, Comes, Noise, 
 use Rattle.weave_laws.specs.Numbers.{HasNumber, ShareNoNumber}
 use Rattle.overlay_harness.specs.Stages.{Stage, actions_of, commands_to, most_copies}
 use Rattle.overlay_harness.specs.Inputs.{envelopes_in, is_command}
-use Rattle.overlay_harness.specs.Clauses.{HasItsCommands, IsServed, WasSentEnough}
+use Rattle.overlay_harness.specs.Clauses.{HasItsCommands, WasSentEnough}
 use Rattle.overlay_harness.specs.Once.{SentBySome, TookOnce}
 use Rattle.overlay_harness.specs.Served.{ServedTo}
-use Rattle.overlay_harness.specs.Ran.{KeptStages, RanStages, SentInTime, all_sent, inputs_in}
+use Rattle.overlay_harness.specs.Ran.{KeptStages, RanStages, all_sent, inputs_in}
 use Rattle.overlay_harness.proofs.Along.{within_budgets}
 use Rattle.overlay_harness.proofs.Hands.{sent_among, weigh_once}
 use Rattle.overlay_harness.proofs.Numbering.{Among, one_node}

@@ -1,5 +1,5 @@
 -- What a cell takes in gives it no passes.
-use Rattle.std.proofs.Common.{◌≡◌, ◌==◌, ℕ, List, [], ◌∷◌, map, All, refl, sym, subst}
+use Rattle.std.proofs.Common.{◌==◌, ℕ, List, [], ◌∷◌, map, All, refl, sym, subst}
 use Rattle.std.specs.List.{AllZip}
 use Rattle.overlay_rules.proofs.Each.{Each, Each-all, Each-from_all}
 use Rattle.scenario_reader.specs.declared.action.Action.{Action}

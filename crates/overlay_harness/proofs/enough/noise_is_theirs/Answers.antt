@@ -3,7 +3,7 @@ use Rattle.std.specs.List.{count_by}
 use Rattle.std.proofs.lemmas.List.{map_more, take_all}
 use Rattle.overlay_rules.proofs.Each.{Each-all, Each-append, Each-from_all}
 use Rattle.ring_math.specs.Names.{Id}
-use Rattle.weave_laws.specs.Cells.{CellEntry, CellInput, History}
+use Rattle.weave_laws.specs.Cells.{CellEntry, History}
 use Rattle.node_cell.specs.Cell.{Cell}
 use Rattle.node_cell.specs.Entries.{plain_input_of}
 use Rattle.node_cell.specs.declared.entry.CellEntry.{CellEntry as CodeEntry}

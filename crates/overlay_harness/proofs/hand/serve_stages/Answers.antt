@@ -1,8 +1,7 @@
-use Rattle.std.proofs.Common.{◌≡◌, ◌∙◌, ◌+◌, ℕ, List, map, take, arith}
+use Rattle.std.proofs.Common.{◌∙◌, List, arith}
 use Rattle.node_cell.specs.Cell.{Cell}
 use Rattle.overlay_harness.specs.declared.stage.Stage.{Stage as CodeStage}
-use Rattle.overlay_harness.specs.Shown.{shown}
-use Rattle.overlay_harness.proofs.Ending.{IsOneMore, IsStageAt, all_served, may_be_told_next, served_next}
+use Rattle.overlay_harness.proofs.Ending.{all_served, may_be_told_next, served_next}
 use Rattle.overlay_harness.proofs.Made.{own_nodes}
 use Rattle.overlay_harness.proofs.hand.serve_stages.Goals as goal
 

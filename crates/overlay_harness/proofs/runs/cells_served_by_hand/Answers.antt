@@ -1,13 +1,11 @@
 use Rattle.std.proofs.Common.{◌≡◌, ◌∙◌, ◌++◌, List, [], drop, length, map, take, sym, subst, ap, arith}
 use Rattle.node_cell.specs.Cell.{Cell}
 use Rattle.scenario_reader.specs.Plain.{PlainScenario}
-use Rattle.weave.specs.Cells.{histories, nodes}
+use Rattle.weave.specs.Cells.{histories}
 use Rattle.overlay_harness.specs.Once.{AllTookOnce}
 use Rattle.overlay_harness.specs.Served.{IsServedTo}
 use Rattle.overlay_harness.specs.Shown.{shown}
-use Rattle.overlay_harness.specs.Stages.{stages_of}
 use Rattle.overlay_harness.specs.Whole.{HaveRun}
-use Rattle.overlay_harness.specs.Work.{fresh_cells}
 use Rattle.overlay_harness.proofs.Ending.{have_run, none_took, put_back, served_to_none}
 use Rattle.overlay_harness.proofs.runs.cells_served_by_hand.Goals as goal
 
