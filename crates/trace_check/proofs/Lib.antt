@@ -1,0 +1,5 @@
+mod Growing
+mod Numbering
+mod Comparing
+mod Following
+pub mod Reaching

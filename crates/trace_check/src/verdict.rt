@@ -1,0 +1,22 @@
+//! What the check of a record answers.
+
+/// What the check of a record answers.
+#[derive(Clone, Copy, Debug, PartialEq, Eq)]
+pub enum Verdict {
+    /// The record is legal, and so many nodes are ready after its last entry.
+    Legal { ready: u64 },
+    /// The entry with this number, from 1, is the first that may not stand where it stands; this part of it is the first that
+    /// is wrong.
+    Wrong { entry: u64, part: Part },
+}
+
+/// A part of an entry.
+#[derive(Clone, Copy, Debug, PartialEq, Eq)]
+pub enum Part {
+    /// The node is not one of the record's, the message was not sent before, or the command's number is not new.
+    Event,
+    /// The messages are not those that the step sends.
+    Sent,
+    /// The notes are not those that the step makes.
+    Notes,
+}
