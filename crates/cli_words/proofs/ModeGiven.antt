@@ -15,7 +15,7 @@ use Rattle.clap.specs.declared.builder.value_parser.ValueParser.TheVariants as v
 use Rattle.clap.proofs.OnLiterals.{clap_on_literals}
 use Rattle.clap.proofs.WalkLemmas.{list_any-map}
 use Rattle.cli_words.specs.declared.mode.Mode.{Mode}
-use Rattle.cli_words.specs.declared.mode.Mode.TheVariants.{Play, Big, Trace}
+use Rattle.cli_words.specs.declared.mode.Mode.TheVariants.{Play, Big, Trace, Check}
 use Rattle.cli_words.specs.Command.{AreModes, command_of, mode_named, mode_of}
 use Rattle.cli_words.proofs.Accepted.{AllGood, Passed, given_passed, level_checked, level_fit}
 use Rattle.cli_words.proofs.Steps.{top}
@@ -48,21 +48,24 @@ checked names rows has_subcommand e = go has_subcommand (is_given (codes "mode")
     go true false e = cc
     go false false e = cc
 
-named_by : (nodes seed : ℕ) (name : Text) (play big trace : Bool) → bytes_eq (codes "play") name ≡ play → bytes_eq (codes "big") name ≡ big →
-    bytes_eq (codes "trace") name ≡ trace → (play || (big || (trace || false))) ≡ true → (mode : Mode) × (mode_named nodes seed name ≡ Some mode)
-named_by nodes seed name true big trace is_play is_big is_trace e =
+named_by : (nodes seed : ℕ) (name : Text) (play big trace check : Bool) → bytes_eq (codes "play") name ≡ play → bytes_eq (codes "big") name ≡ big →
+    bytes_eq (codes "trace") name ≡ trace → bytes_eq (codes "check") name ≡ check → (play || (big || (trace || (check || false)))) ≡ true →
+    (mode : Mode) × (mode_named nodes seed name ≡ Some mode)
+named_by nodes seed name true big trace check is_play is_big is_trace is_check e =
     (Play, ap (mode_named nodes seed) (sym ((bytes_eq-Decides (codes "play") name).0 is_play)))
-named_by nodes seed name false true trace is_play is_big is_trace e =
+named_by nodes seed name false true trace check is_play is_big is_trace is_check e =
     (Big nodes seed, ap (mode_named nodes seed) (sym ((bytes_eq-Decides (codes "big") name).0 is_big)))
-named_by nodes seed name false false true is_play is_big is_trace e =
+named_by nodes seed name false false true check is_play is_big is_trace is_check e =
     (Trace, ap (mode_named nodes seed) (sym ((bytes_eq-Decides (codes "trace") name).0 is_trace)))
-named_by nodes seed name false false false is_play is_big is_trace e = absurd (true≢false (sym e))
+named_by nodes seed name false false false true is_play is_big is_trace is_check e =
+    (Check, ap (mode_named nodes seed) (sym ((bytes_eq-Decides (codes "check") name).0 is_check)))
+named_by nodes seed name false false false false is_play is_big is_trace is_check e = absurd (true≢false (sym e))
 
 -- each name that the parser takes is that of a mode
 accepted_names : (names : Bor (List (Bor Text))) → AreModes names → (nodes seed : ℕ) (name : Text) → accepts false (vp.Names names) name ≡ true →
     (mode : Mode) × (mode_named nodes seed name ≡ Some mode)
 accepted_names names modes nodes seed name e =
-    named_by nodes seed name _ _ _ refl refl refl
+    named_by nodes seed name _ _ _ _ refl refl refl refl
     (sym (list_any-map (λ (t : Text). bytes_eq t name) (λ (t : Bor Text). t.now) names.now ∙ ap (list_any (λ (t : Text). bytes_eq t name)) modes) ∙ e)
 
 found_mode : (names : Bor (List (Bor Text))) → AreModes names → (nodes seed : ℕ) (found : Option Text) → Passed (codes "mode") (vp.Names names) found →

@@ -21,7 +21,7 @@ use Rattle.clap.proofs.OnLiterals.{clap_on_literals}
 use Rattle.clap.proofs.ValueTestLemmas.{accepts-Accepts}
 use Rattle.cli_words.specs.declared.limits.TheConstants.{DEFAULT_NODES, FEWEST_MADE_NODES, MOST_MADE_NODES}
 use Rattle.cli_words.specs.declared.mode.Mode.{Mode}
-use Rattle.cli_words.specs.declared.mode.Mode.TheVariants.{Play, Big, Trace}
+use Rattle.cli_words.specs.declared.mode.Mode.TheVariants.{Play, Big, Trace, Check}
 use Rattle.cli_words.specs.declared.mode.WordFault.{WordFault}
 use Rattle.cli_words.specs.declared.mode.WordFault.TheVariants.{OutOfMemory}
 use Rattle.cli_words.specs.Command.{AreModes, HasNodesInRange, Reads, command_of, mode_named, mode_of, number_in, number_of}
@@ -102,13 +102,16 @@ number_in_range (r ∷ rows) fit = go (bytes_eq r.id nodes) refl (number_in_rang
 
 named_in_range : (name : Option Text) (n seed : ℕ) → InRange n → IfSome (option_and_then (mode_named n seed) name) HasNodesInRange
 named_in_range None n seed h = tt
-named_in_range (Some t) n seed h = go (bytes_eq t (codes "play")) (bytes_eq t (codes "big")) (bytes_eq t (codes "trace"))
+named_in_range (Some t) n seed h =
+    go (bytes_eq t (codes "play")) (bytes_eq t (codes "big")) (bytes_eq t (codes "trace")) (bytes_eq t (codes "check"))
   where
-    go : (play big trace : Bool) → IfSome (cond play (Some Play) (cond big (Some (Big n seed)) (cond trace (Some Trace) None))) HasNodesInRange
-    go true big trace = tt
-    go false true trace = h
-    go false false true = tt
-    go false false false = tt
+    go : (play big trace check : Bool) →
+        IfSome (cond play (Some Play) (cond big (Some (Big n seed)) (cond trace (Some Trace) (cond check (Some Check) None)))) HasNodesInRange
+    go true big trace check = tt
+    go false true trace check = h
+    go false false true check = tt
+    go false false false true = tt
+    go false false false false = tt
 
 mode_in_range : (names : Bor (List (Bor Text))) (words : List Text) → fault_of (command_of names) words ≡ [] →
     IfSome (mode_of (matches_of (command_of names) words)) HasNodesInRange

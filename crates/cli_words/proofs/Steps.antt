@@ -225,7 +225,7 @@ and_false true = refl
 and_false false = refl
 
 abbrev pub IsModeName : Text → Type 0
-IsModeName m = (m ≡ codes "play") ⊎ (m ≡ codes "big") ⊎ (m ≡ codes "trace")
+IsModeName m = (m ≡ codes "play") ⊎ (m ≡ codes "big") ⊎ (m ≡ codes "trace") ⊎ (m ≡ codes "check")
 
 mode_walked_as : (names : Bor (List (Bor Text))) (m : Text) (held : List Row) (pending : Option (Text × List Text)) → IsModeName m →
     walked (rules names) [] (stand held pending idle 1) m ≡ stand (settled_rows (rules names) pending held) (Some (codes "mode", m ∷ [])) idle 2
@@ -234,7 +234,9 @@ mode_walked_as names m held pending (inl e) = let h =
     and_false (option_map_or (λ (q : Text × List Text). bytes_eq q.0 (codes "mode")) pending false) in rw (e, h) refl
 mode_walked_as names m held pending (inr (inl e)) = let h =
     and_false (option_map_or (λ (q : Text × List Text). bytes_eq q.0 (codes "mode")) pending false) in rw (e, h) refl
-mode_walked_as names m held pending (inr (inr e)) = let h =
+mode_walked_as names m held pending (inr (inr (inl e))) = let h =
+    and_false (option_map_or (λ (q : Text × List Text). bytes_eq q.0 (codes "mode")) pending false) in rw (e, h) refl
+mode_walked_as names m held pending (inr (inr (inr e))) = let h =
     and_false (option_map_or (λ (q : Text × List Text). bytes_eq q.0 (codes "mode")) pending false) in rw (e, h) refl
 
 mode_fault_is : (names : Bor (List (Bor Text))) (m : Text) (held : List Row) (pending : Option (Text × List Text)) → IsModeName m →
@@ -244,7 +246,9 @@ mode_fault_is names m held pending (inl e) = let h =
     and_false (option_map_or (λ (q : Text × List Text). bytes_eq q.0 (codes "mode")) pending false) in rw (e, h) refl
 mode_fault_is names m held pending (inr (inl e)) = let h =
     and_false (option_map_or (λ (q : Text × List Text). bytes_eq q.0 (codes "mode")) pending false) in rw (e, h) refl
-mode_fault_is names m held pending (inr (inr e)) = let h =
+mode_fault_is names m held pending (inr (inr (inl e))) = let h =
+    and_false (option_map_or (λ (q : Text × List Text). bytes_eq q.0 (codes "mode")) pending false) in rw (e, h) refl
+mode_fault_is names m held pending (inr (inr (inr e))) = let h =
     and_false (option_map_or (λ (q : Text × List Text). bytes_eq q.0 (codes "mode")) pending false) in rw (e, h) refl
 
 pub mode_step : (names : Bor (List (Bor Text))) (m : Text) (held : List Row) (pending : Option (Text × List Text)) (rows : List Row) → IsModeName m →
@@ -264,5 +268,7 @@ mode_accepted names m modes (inl e) =
     list_any-map (λ (s : Text). bytes_eq s m) (λ (s : Bor Text). s.now) names.now ∙ ap (list_any (λ (s : Text). bytes_eq s m)) modes ∙ rw e refl
 mode_accepted names m modes (inr (inl e)) =
     list_any-map (λ (s : Text). bytes_eq s m) (λ (s : Bor Text). s.now) names.now ∙ ap (list_any (λ (s : Text). bytes_eq s m)) modes ∙ rw e refl
-mode_accepted names m modes (inr (inr e)) =
+mode_accepted names m modes (inr (inr (inl e))) =
+    list_any-map (λ (s : Text). bytes_eq s m) (λ (s : Bor Text). s.now) names.now ∙ ap (list_any (λ (s : Text). bytes_eq s m)) modes ∙ rw e refl
+mode_accepted names m modes (inr (inr (inr e))) =
     list_any-map (λ (s : Text). bytes_eq s m) (λ (s : Bor Text). s.now) names.now ∙ ap (list_any (λ (s : Text). bytes_eq s m)) modes ∙ rw e refl

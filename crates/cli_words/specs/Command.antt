@@ -19,13 +19,13 @@ use Rattle.cli_words.specs.declared.limits.TheConstants.{DEFAULT_NODES, DEFAULT_
 use Rattle.cli_words.specs.declared.limits.TheConstants.{DEFAULT_SIZE_TEXT, FEWEST_MADE_NODES, LEAST_ROOM}
 use Rattle.cli_words.specs.declared.limits.TheConstants.{MOST_MADE_NODES, MOST_ROOM, MOST_SIZE}
 use Rattle.cli_words.specs.declared.mode.Mode.{Mode}
-use Rattle.cli_words.specs.declared.mode.Mode.TheVariants.{Play, Big, Trace}
+use Rattle.cli_words.specs.declared.mode.Mode.TheVariants.{Play, Big, Trace, Check}
 use Rattle.cli_words.specs.declared.mode.WordFault.{WordFault}
 use Rattle.cli_words.specs.declared.mode.WordFault.TheVariants.{Usage}
 
 -- the texts of MODE
 abbrev pub mode_names : List Text
-mode_names = codes "play" ∷ codes "big" ∷ codes "trace" ∷ []
+mode_names = codes "play" ∷ codes "big" ∷ codes "trace" ∷ codes "check" ∷ []
 
 -- the same, wherever they are kept
 abbrev pub AreModes : Bor (List (Bor Text)) → Type 0
@@ -75,7 +75,8 @@ number_of id most otherwise rows = option_map_or (number_in most otherwise) (one
 abbrev pub mode_named : ℕ → ℕ → Text → Option Mode
 mode_named nodes seed name =
     if bytes_eq name (codes "play") then Some Play
-    else (if bytes_eq name (codes "big") then Some (Big nodes seed) else (if bytes_eq name (codes "trace") then Some Trace else None))
+    else (if bytes_eq name (codes "big") then Some (Big nodes seed)
+    else (if bytes_eq name (codes "trace") then Some Trace else (if bytes_eq name (codes "check") then Some Check else None)))
 
 -- the mode of what a reading found
 abbrev pub mode_of : List Row → Option Mode
@@ -88,6 +89,7 @@ abbrev pub HasNodesInRange : Mode → Type 0
 HasNodesInRange Play = Unit {0}
 HasNodesInRange (Big nodes seed) = (FEWEST_MADE_NODES ≤ nodes) × (nodes ≤ MOST_MADE_NODES)
 HasNodesInRange Trace = Unit {0}
+HasNodesInRange Check = Unit {0}
 
 -- What a reading answers: Usage exactly where the command's reading is refused for another cause than memory.
 pub record Reads (names : Bor (List (Bor Text))) (words : List Text) (result : Result Mode WordFault) : Type 0 where

@@ -41,7 +41,7 @@ words_of (Apart setting number) = (codes "--" ++ setting_name setting) ∷ decim
 words_of (Joined setting number) = (codes "--" ++ (setting_name setting ++ (codes "=" ++ decimal number))) ∷ []
 
 abbrev pub IsPiece : Piece → Type 0
-IsPiece (Names mode) = (mode ≡ codes "play") ⊎ (mode ≡ codes "big") ⊎ (mode ≡ codes "trace")
+IsPiece (Names mode) = (mode ≡ codes "play") ⊎ (mode ≡ codes "big") ⊎ (mode ≡ codes "trace") ⊎ (mode ≡ codes "check")
 IsPiece (Apart setting number) = InRange setting number
 IsPiece (Joined setting number) = InRange setting number
 

@@ -11,6 +11,8 @@ pub enum Mode {
     Big { nodes: u32, seed: u64 },
     /// Plays a scenario and writes its record as a trace.
     Trace,
+    /// Reads a trace and writes whether its record is legal.
+    Check,
 }
 
 /// Why words were not read.

@@ -17,6 +17,7 @@ fn reads_plain_words(rt: HostRuntime) -> Result<(), Fail> {
     let big = Mode::Big { nodes: 9, seed: 0 };
     assert_eq!(rt; read(&rt, &["pastry", "play"])?, Ok(Mode::Play));
     assert_eq!(rt; read(&rt, &["pastry", "trace"])?, Ok(Mode::Trace));
+    assert_eq!(rt; read(&rt, &["pastry", "check"])?, Ok(Mode::Check));
     assert_eq!(rt;
         read(&rt, &["", "big"])?,
         Ok(Mode::Big { nodes: 12, seed: 7 })

@@ -1,29 +1,63 @@
--- What was read of a source: all of it, where it is a scenario.
-use Rattle.std.proofs.Common.{◌≡◌, ◌<◌, ◌≤◌, ℕ, List, length, take, Option, Some, None, Ok, ap, ◌∙◌, arith}
+-- What was read of a source: all of it, where it is a scenario or a trace.
+use Rattle.std.proofs.Common.{◌≡◌, ◌<◌, ◌≤◌, ℕ, List, length, take, Option, Some, None, Result, Ok, Err, ap, subst, ◌∙◌, inl, inr, arith}
+use Rattle.std.proofs.lemmas.Bool.{cases_order}
 use Rattle.std.proofs.lemmas.List.{drop_all, take_all, length-take}
 use Rattle.scenario_reader.specs.Plain.{PlainScenario}
 use Rattle.scenario_reader.specs.Grammar.{scenario_of}
 use Rattle.scenario_reader.proofs.Sizes.{scenario-sized}
+use Rattle.trace_text.specs.declared.fault.TraceFault.{TraceFault}
+use Rattle.trace_text.specs.declared.limits.TheConstants.{MOST_TRACE_BYTES}
+use Rattle.trace_text.specs.declared.trace.Trace.{Trace}
+use Rattle.trace_text.specs.Traces.{IsTraceOf, PlainTrace}
+use Rattle.pastry.specs.declared.checking.TheConstants.{TRACE_LIMIT}
 use Rattle.pastry.specs.declared.reading.TheConstants.{INPUT_LIMIT}
+use Rattle.pastry.specs.Checked.{IsReadTrace}
 use Rattle.pastry.specs.Reading.{WasRead, WasReadToEnd, IsScenario}
 
 short : (n : ℕ) (xs bytes : List ℕ) → bytes ≡ take n xs → length bytes < n → length xs < n
 short n xs bytes e h = omega (arith, ap length e, length-take n xs)
 
 -- fewer bytes than the limit are all that there were
-pub read_whole : (before after : Option (List ℕ)) (bytes : List ℕ) → WasRead before after bytes → length bytes < INPUT_LIMIT → WasReadToEnd before after bytes
-read_whole None after bytes r h = record { told = record { bytes = tt } }
-read_whole (Some xs) None bytes r h = absurd r.told.bytes
-read_whole (Some xs) (Some ys) bytes r h =
-    let all : length xs < INPUT_LIMIT = short INPUT_LIMIT xs bytes r.told.bytes.0 (omega arith) in
-    record { told = record { bytes = (r.told.bytes.0 ∙ take_all INPUT_LIMIT xs (omega arith), r.told.bytes.1 ∙ drop_all INPUT_LIMIT xs (omega arith)) } }
+pub read_whole : (limit : ℕ) (before after : Option (List ℕ)) (bytes : List ℕ) → WasRead limit before after bytes → length bytes < limit →
+    WasReadToEnd before after bytes
+read_whole limit None after bytes r h = record { told = record { bytes = tt } }
+read_whole limit (Some xs) None bytes r h = absurd r.told.bytes
+read_whole limit (Some xs) (Some ys) bytes r h =
+    let all : length xs < limit = short limit xs bytes r.told.bytes.0 (omega arith) in
+    record { told = record { bytes = (r.told.bytes.0 ∙ take_all limit xs (omega arith), r.told.bytes.1 ∙ drop_all limit xs (omega arith)) } }
 
 -- a scenario has fewer bytes than the limit
 short_scenario : (bytes : List ℕ) (s : PlainScenario) → scenario_of bytes ≡ Ok s → length bytes < 90010001
 short_scenario bytes s e = let size = scenario-sized bytes s e in omega arith
 
 -- a scenario was read to its end
-pub read_scenario : (before after : Option (List ℕ)) (bytes : List ℕ) (s : PlainScenario) → WasRead before after bytes → scenario_of bytes ≡ Ok s →
+pub read_scenario : (before after : Option (List ℕ)) (bytes : List ℕ) (s : PlainScenario) → WasRead INPUT_LIMIT before after bytes → scenario_of bytes ≡ Ok s →
     IsScenario before after s
 read_scenario before after bytes s r e =
-    record { bytes = bytes; read = read_whole before after bytes r (short_scenario bytes s e); is = e }
+    record { bytes = bytes; read = read_whole INPUT_LIMIT before after bytes r (short_scenario bytes s e); is = e }
+
+-- ---- traces
+
+at_most : (n m : ℕ) → (m < n → ⊥) → n ≤ m
+at_most n m h =
+    elim (cases_order n m) [
+      | inl e ↦ omega arith
+      | inr (inl l) ↦ omega arith
+      | inr (inr l) ↦ absurd (h l)
+    ]
+
+-- what was read is not refused
+pub not_refused : {t : Trace} {f : TraceFault} → ◌≡◌ {A = Result Trace TraceFault} (Ok t) (Err f) → ⊥
+not_refused e = cc
+
+-- a trace was read to its end
+pub read_trace : (before after : Option (List ℕ)) (bytes seen : List ℕ) (t : PlainTrace) → seen ≡ bytes → WasRead TRACE_LIMIT before after bytes →
+    (MOST_TRACE_BYTES < length seen → ⊥) → IsTraceOf seen t → IsReadTrace before after t
+read_trace before after bytes seen t same r short is =
+    let few : length bytes ≤ MOST_TRACE_BYTES = subst (λ (bs : List ℕ). length bs ≤ MOST_TRACE_BYTES) same (at_most (length seen) MOST_TRACE_BYTES short) in
+    record {
+      bytes = bytes;
+      read = read_whole TRACE_LIMIT before after bytes r (omega (arith, few));
+      few = few;
+      is = subst (λ (bs : List ℕ). IsTraceOf bs t) same is;
+    }

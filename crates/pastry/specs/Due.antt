@@ -1,11 +1,19 @@
 -- What answer is due in a mode.
-use Rattle.std.specs.Prelude.{◌≡◌, ◌⊎◌, ℕ, List, take, Option, Some, None, Ok, Err}
+use Rattle.std.specs.Prelude.{◌≡◌, ◌≤◌, ◌⊎◌, ℕ, List, length, take, Option, Some, None, Ok, Err}
 use Rattle.scenario_reader.specs.declared.fault.LineFault.{LineFault}
 use Rattle.scenario_reader.specs.Grammar.{scenario_of}
 use Rattle.scenario_reader.specs.Plain.{PlainScenario}
 use Rattle.cli_words.specs.declared.mode.Mode.{Mode}
-use Rattle.cli_words.specs.declared.mode.Mode.TheVariants.{Play, Big, Trace}
+use Rattle.cli_words.specs.declared.mode.Mode.TheVariants.{Play, Big, Trace, Check}
+use Rattle.trace_text.specs.declared.fault.TraceFault.{TraceFault}
+use Rattle.trace_text.specs.Traces.{IsTraceOf, PlainTrace, setting_of}
+use Rattle.trace_text.specs.declared.limits.TheConstants.{MOST_TRACE_BYTES}
+use Rattle.trace_check.specs.declared.verdict.Verdict.{Verdict}
+use Rattle.trace_check.specs.declared.verdict.Verdict.TheVariants as verdict
+use Rattle.trace_check.specs.Verdicts.{IsVerdict}
+use Rattle.pastry.specs.declared.checking.TheConstants.{TRACE_LIMIT}
 use Rattle.pastry.specs.declared.reading.TheConstants.{INPUT_LIMIT}
+use Rattle.pastry.specs.Checked.{IsFaultOf}
 use Rattle.pastry.specs.declared.outcome.TopFault.{TopFault}
 use Rattle.pastry.specs.declared.outcome.TopFault.TheVariants as fault
 
@@ -20,8 +28,20 @@ IsAnswered left answered =
     ((s : PlainScenario) → scenario_of xs ≡ Ok s → DoneOr answered None)
     × ((f : LineFault) → scenario_of (take INPUT_LIMIT xs) ≡ Err f → DoneOr answered (Some (fault.Scenario f)))
 
+-- how a check ends that comes to this verdict
+abbrev pub fault_of : Verdict → Option TopFault
+fault_of (verdict.Legal ready) = None
+fault_of (verdict.Wrong entry p) = Some (fault.Wrong entry p)
+
+-- of a trace that a source has the verdict is told, and what is no trace is refused for its fault
+pub record IsJudgedRightly (left : Option (List ℕ)) (answered : Option TopFault) : Type 0 where
+  pub told : (xs : List ℕ) (t : PlainTrace) (v : Verdict) → left ≡ Some xs → length xs ≤ MOST_TRACE_BYTES → IsTraceOf xs t →
+      IsVerdict (setting_of t.nodes t.founder) t.entries v → DoneOr answered (fault_of v)
+  pub refused : (xs : List ℕ) (f : TraceFault) → left ≡ Some xs → IsFaultOf (take TRACE_LIMIT xs) f → DoneOr answered (Some (fault.Trace f))
+
 -- what is due in a mode where no device fails: what the source has is answered; `big` is done, whatever it has
 abbrev pub IsDue : Mode → Type 0 → Type 0 → Option (List ℕ) → Option TopFault → Type 0
 IsDue Play source_fails sink_fails left answered = ¬ source_fails → ¬ sink_fails → IsAnswered left answered
 IsDue (Big nodes seed) source_fails sink_fails left answered = ¬ sink_fails → DoneOr answered None
 IsDue Trace source_fails sink_fails left answered = ¬ source_fails → ¬ sink_fails → IsAnswered left answered
+IsDue Check source_fails sink_fails left answered = ¬ source_fails → ¬ sink_fails → IsJudgedRightly left answered

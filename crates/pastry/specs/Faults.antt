@@ -7,22 +7,69 @@ abbrev pub status_of : Option TopFault → ℕ
 status_of None = 0
 status_of (Some fault.Usage) = 2
 status_of (Some (fault.Scenario f)) = 3
+status_of (Some (fault.Trace f)) = 3
 status_of (Some fault.Read) = 4
 status_of (Some fault.Write) = 5
 status_of (Some fault.OutOfMemory) = 6
+status_of (Some (fault.Wrong entry part)) = 10
 
--- a fault that can come before anything is played
+-- a fault that can come while a scenario is read
 abbrev pub IsReadingFault : TopFault → Type 0
 IsReadingFault fault.Usage = ⊥
-IsReadingFault fault.Write = ⊥
 IsReadingFault (fault.Scenario f) = Unit {0}
+IsReadingFault (fault.Trace f) = ⊥
 IsReadingFault fault.Read = Unit {0}
+IsReadingFault fault.Write = ⊥
 IsReadingFault fault.OutOfMemory = Unit {0}
+IsReadingFault (fault.Wrong entry part) = ⊥
 
--- a fault that can come where nothing is read
-abbrev pub IsWritingFault : TopFault → Type 0
-IsWritingFault fault.Usage = ⊥
-IsWritingFault (fault.Scenario f) = ⊥
-IsWritingFault fault.Read = ⊥
-IsWritingFault fault.Write = Unit {0}
-IsWritingFault fault.OutOfMemory = Unit {0}
+-- while one is read, played and told
+abbrev pub IsPlayingFault : TopFault → Type 0
+IsPlayingFault fault.Usage = ⊥
+IsPlayingFault (fault.Scenario f) = Unit {0}
+IsPlayingFault (fault.Trace f) = ⊥
+IsPlayingFault fault.Read = Unit {0}
+IsPlayingFault fault.Write = Unit {0}
+IsPlayingFault fault.OutOfMemory = Unit {0}
+IsPlayingFault (fault.Wrong entry part) = ⊥
+
+-- while one is made, played and told
+abbrev pub IsMakingFault : TopFault → Type 0
+IsMakingFault fault.Usage = ⊥
+IsMakingFault (fault.Scenario f) = ⊥
+IsMakingFault (fault.Trace f) = ⊥
+IsMakingFault fault.Read = ⊥
+IsMakingFault fault.Write = Unit {0}
+IsMakingFault fault.OutOfMemory = Unit {0}
+IsMakingFault (fault.Wrong entry part) = ⊥
+
+-- while a trace is read
+abbrev pub IsTraceReadingFault : TopFault → Type 0
+IsTraceReadingFault fault.Usage = ⊥
+IsTraceReadingFault (fault.Scenario f) = ⊥
+IsTraceReadingFault (fault.Trace f) = Unit {0}
+IsTraceReadingFault fault.Read = Unit {0}
+IsTraceReadingFault fault.Write = ⊥
+IsTraceReadingFault fault.OutOfMemory = Unit {0}
+IsTraceReadingFault (fault.Wrong entry part) = ⊥
+
+-- while one is read, checked and told
+abbrev pub IsCheckingFault : TopFault → Type 0
+IsCheckingFault fault.Usage = ⊥
+IsCheckingFault (fault.Scenario f) = ⊥
+IsCheckingFault (fault.Trace f) = Unit {0}
+IsCheckingFault fault.Read = Unit {0}
+IsCheckingFault fault.Write = Unit {0}
+IsCheckingFault fault.OutOfMemory = Unit {0}
+IsCheckingFault (fault.Wrong entry part) = Unit {0}
+
+-- the ends of a run that has written something, if only a part
+abbrev pub HasWritten : Option TopFault → Type 0
+HasWritten None = Unit {0}
+HasWritten (Some fault.Usage) = ⊥
+HasWritten (Some (fault.Scenario f)) = ⊥
+HasWritten (Some (fault.Trace f)) = ⊥
+HasWritten (Some fault.Read) = ⊥
+HasWritten (Some fault.Write) = Unit {0}
+HasWritten (Some fault.OutOfMemory) = ⊥
+HasWritten (Some (fault.Wrong entry part)) = Unit {0}

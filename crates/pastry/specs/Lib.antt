@@ -1,10 +1,13 @@
 pub mod Asked
+pub mod Checked
 pub mod Due
 pub mod Faults
 pub mod Headline
+pub mod Judged
 pub mod Outputs
 pub mod Played
 pub mod Prepared
 pub mod Reading
 pub mod Runs
+pub mod VerdictTexts
 pub mod Written

@@ -14,11 +14,13 @@ pub record IsPlayed (s : PlainScenario) (r : Record) : Type 0 where
   pub legal : IsRecord (setting_of s) r.entries
   pub headline : Headline (setting_of s) r.entries
 
--- a scenario of which R says where it comes from was played, and of its text, which `text_of` gives, W says what became of it
-pub record HasPlayed (R : PlainScenario → Type 0) (text_of : PlainScenario → Record → List ℕ) (W : List ℕ → Type 0) (played : Option Record) : Type 0 where
+-- of a scenario, of which R says where it comes from, there is a record, of which P holds; and W says what became of its text,
+-- which `text_of` gives
+pub record HasTold (R : PlainScenario → Type 0) (P : PlainScenario → Record → Type 0) (text_of : PlainScenario → Record → List ℕ) (W : List ℕ → Type 0)
+    (told : Option Record) : Type 0 where
   pub scenario : PlainScenario
   pub record_of : Record
   pub from : R scenario
-  pub is_played : IsPlayed scenario record_of
-  pub same : played ≡ Some record_of
+  pub is : P scenario record_of
+  pub same : told ≡ Some record_of
   pub written : W (text_of scenario record_of)

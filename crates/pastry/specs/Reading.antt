@@ -7,10 +7,10 @@ use Rattle.scenario_reader.specs.declared.fault.LineFault.TheVariants as line_fa
 use Rattle.scenario_reader.specs.Grammar.{scenario_of}
 use Rattle.scenario_reader.specs.Plain.{PlainScenario}
 
--- these bytes were read of what a source had left: all of it, but no more than the limit
-pub record WasRead (before after : Option (List ℕ)) (bytes : List ℕ) : Type 0 where
-  pub told : Told before after (λ xs ys. (bytes ≡ take INPUT_LIMIT xs) × (ys ≡ drop INPUT_LIMIT xs))
-  pub limit : length bytes ≤ INPUT_LIMIT
+-- these bytes were read of what a source had left: all of it, but no more than a limit
+pub record WasRead (limit : ℕ) (before after : Option (List ℕ)) (bytes : List ℕ) : Type 0 where
+  pub told : Told before after (λ xs ys. (bytes ≡ take limit xs) × (ys ≡ drop limit xs))
+  pub within : length bytes ≤ limit
 
 -- all that the source had left was read
 pub record WasReadToEnd (before after : Option (List ℕ)) (bytes : List ℕ) : Type 0 where
@@ -19,7 +19,7 @@ pub record WasReadToEnd (before after : Option (List ℕ)) (bytes : List ℕ) : 
 -- what was read is refused by the language, for this fault
 pub record IsRefused (before after : Option (List ℕ)) (f : LineFault) : Type 0 where
   pub bytes : List ℕ
-  pub read : WasRead before after bytes
+  pub read : WasRead INPUT_LIMIT before after bytes
   pub refused : scenario_of bytes ≡ Err f
   pub real : f ≢ line_fault.OutOfMemory
 

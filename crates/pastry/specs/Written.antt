@@ -10,7 +10,6 @@ use Rattle.outside.specs.Reading.{Reads}
 use Rattle.outside.specs.Sink.{BreaksOff}
 use Rattle.outside.specs.Told.{Told}
 use Rattle.outside.specs.Writing.{Writes}
-use Rattle.pastry.specs.declared.reading.TheConstants.{INPUT_LIMIT}
 
 -- the whole text was taken
 abbrev pub Appends : List ℕ → List ℕ → List ℕ → Type 0
@@ -27,8 +26,8 @@ pub record IsBrokenOff {K : Type 0} (takes : K → List ℕ → Taken → K → 
   pub calls : Writes takes before text (Err fault) after
   pub told : Told (taken before) (taken after) (BreaksOff text)
 
--- a source was read by calls, to its end or to the limit; one that failed was the last, and then `failed` holds, and only then
-pub record WasReadByCalls {S : Type 0} (gives : S → ℕ → Piece → S → Type 0) (before after : S) (failed : Type 0) : Type 0 where
+-- a source was read by calls, to its end or to a limit; one that failed was the last, and then `failed` holds, and only then
+pub record WasReadByCalls (limit : ℕ) {S : Type 0} (gives : S → ℕ → Piece → S → Type 0) (before after : S) (failed : Type 0) : Type 0 where
   pub outcome : Result ℕ ReadFault
-  pub calls : Reads gives INPUT_LIMIT before 0 outcome after
+  pub calls : Reads gives limit before 0 outcome after
   pub cause : failed ↔ (outcome ≡ Err Read)

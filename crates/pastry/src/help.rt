@@ -21,16 +21,18 @@ const MODES: &str = "\
 usage: pastry play < SCENARIO
        pastry big [--nodes N] [--seed N]
        pastry trace < SCENARIO
+       pastry check < TRACE
 
   play        plays the scenario on standard input, and writes its report
   big         plays a scenario that it makes itself, and writes its summary and a tally
   trace       plays the scenario on standard input, and writes all that happened, as docs/TRACES.md has it
+  check       reads what trace wrote, or anybody, and writes whether that could have happened
 ";
 
 const STATUSES: &str = "\
-Statuses: 0 done, 2 these words are refused, 3 the input is no scenario, 4 the input could not be read, 5 the output could not
-be written, 6 too little memory, 120 the program could not be run before its proofs. README.md begins with an example,
-docs/TUTORIAL.md leads on from there, and docs/SCENARIOS.md has the language.";
+Statuses: 0 done, 2 these words are refused, 3 the input is no scenario (for check: no trace), 4 the input could not be read,
+5 the output could not be written, 6 too little memory, 10 the trace is wrong, 120 the program could not be run before its
+proofs. README.md begins with an example, docs/TUTORIAL.md leads on from there, and docs/SCENARIOS.md has the language.";
 
 /// The modes, the options, the statuses, and where to read on. `scripts/usage` has the same text.
 #[derive(Clone, Copy)]

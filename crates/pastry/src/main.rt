@@ -2,6 +2,7 @@
 #![tactic(auto)]
 
 mod cause;
+mod checking;
 mod help;
 mod laws;
 mod message;
@@ -15,6 +16,7 @@ mod telling;
 #[cfg(test)]
 mod tests;
 mod top;
+mod verdict;
 mod watched;
 
 use cli_words::{Mode, read_words};
@@ -27,7 +29,8 @@ use std::process::ExitCode;
 use std::rc::RcStr;
 use std::{io, mem};
 use telling::{
-    tell_memory, tell_refused_words, tell_scenario_fault, tell_system_fault, tell_unreadable_words,
+    tell_memory, tell_refused_words, tell_scenario_fault, tell_system_fault, tell_trace_fault,
+    tell_unreadable_words, tell_wrong,
 };
 use top::top;
 use watched::{Seen, WatchedReader, WatchedWriter};
@@ -64,6 +67,14 @@ fn expect_made(alloc: Global, words: &[RcStr], progress: &Progress<'_>) {
     }
 }
 
+/// What is to be kept of the input for messages: a trace is long, and no message shows it.
+fn seen_by(alloc: Global, words: &[RcStr]) -> Seen {
+    match read_words(alloc, words) {
+        Ok(Mode::Check) => Seen::unkept(alloc),
+        _ => Seen::new(alloc),
+    }
+}
+
 /// What a run met: its words, what it saw of its input, and why its output failed.
 #[derive(Drop)]
 struct Met<'a> {
@@ -78,6 +89,7 @@ fn tell(rt: &HostRuntime, fault: &TopFault, met: &Met<'_>) {
     match fault {
         TopFault::Usage => tell_refused_words(rt, alloc, met.words),
         TopFault::Scenario(fault) => tell_scenario_fault(rt, alloc, fault, met.input.bytes()),
+        TopFault::Trace(fault) => tell_trace_fault(rt, fault),
         TopFault::Read => tell_system_fault(rt, "the input could not be read", met.input.fault),
         TopFault::Write => tell_system_fault(
             rt,
@@ -85,6 +97,7 @@ fn tell(rt: &HostRuntime, fault: &TopFault, met: &Met<'_>) {
             met.output_fault,
         ),
         TopFault::OutOfMemory => tell_memory(rt),
+        TopFault::Wrong { entry, part } => tell_wrong(rt, *entry, *part),
     }
 }
 
@@ -96,7 +109,7 @@ fn main(rt: HostRuntime) -> ExitCode {
     };
     let progress = Progress::new(&rt);
     expect_made(alloc, &words, &progress);
-    let mut input = Seen::new(alloc);
+    let mut input = seen_by(alloc, &words);
     let mut output_fault = None;
     let mut source = FromReader::new(WatchedReader {
         reader: rt.stdin(),

@@ -1,15 +1,19 @@
 //! What the program does in each of its modes.
 
-ghost use Rattle.std.specs.Prelude.{◌≡◌, ◌≢◌, ◌≤◌, ◌↔◌, ◌⊎◌, Some, None, IsSome, IsNone};
+ghost use Rattle.std.specs.Prelude.{◌≡◌, ◌≢◌, ◌≤◌, ◌⊎◌, Some, None, IsSome};
 ghost use Rattle.outside.specs.Rose.{Rose};
 ghost use Rattle.scenario_reader.specs.declared.fault.LineFault.{LineFault as Fault};
+ghost use Rattle.trace_text.specs.declared.fault.TraceFault.{TraceFault as NoTrace};
+ghost use Rattle.trace_check.specs.declared.verdict.Part.{Part as WrongPart};
 ghost use Rattle.cli_words.specs.Command.{HasNodesInRange};
+ghost use Rattle.pastry.specs.Checked.{HasFoundWrong, IsNoTrace};
 ghost use Rattle.pastry.specs.Due.{IsDue};
-ghost use Rattle.pastry.specs.Faults.{status_of};
+ghost use Rattle.pastry.specs.Faults.{status_of, HasWritten};
 ghost use Rattle.pastry.specs.Reading.{IsRefused};
-ghost use Rattle.pastry.specs.Runs.{IsDone, ReadsScenario};
+ghost use Rattle.pastry.specs.Runs.{IsAtItsText, IsDone, ReadsInput, ReadsScenario, limit_of};
 ghost use Rattle.pastry.specs.Written.{IsTaken, IsBrokenOff, WasReadByCalls};
 
+use crate::checking::check_read;
 use crate::outcome::{Outcome, TopFault};
 use crate::output::Output;
 use crate::playing::{play_made, play_read};
@@ -29,14 +33,16 @@ pub(crate) fn run_mode<S: Source, K: Sink, T: Turnstile>(
     ensures status { result.status ≡ status_of result.fault }
     ensures usage { result.fault ≢ Some TopFault.Usage }
     ensures done { result.fault ≡ None → IsDone mode S.left source.old source.new (IsTaken K.takes K.taken sink.old sink.new) result.played }
-    ensures broken_off { result.fault ≡ Some TopFault.Write → IsDone mode S.left source.old source.new (IsBrokenOff K.takes K.taken sink.old sink.new) result.played }
-    ensures played { IsSome result.played ↔ ((result.fault ≡ None) ⊎ (result.fault ≡ Some TopFault.Write)) }
-    ensures nothing_written { IsNone result.played → sink.new ≡ sink.old }
+    ensures broken_off { result.fault ≡ Some TopFault.Write → IsAtItsText mode S.left source.old source.new (IsBrokenOff K.takes K.taken sink.old sink.new) result.played }
+    ensures wrong { (entry : _) (part : WrongPart) → result.fault ≡ Some (TopFault.Wrong entry part) → (mode ≡ Mode.Check) × HasFoundWrong (S.left source.old) (S.left source.new) (IsTaken K.takes K.taken sink.old sink.new) result.played entry part }
+    ensures played { IsSome result.played → (result.fault ≡ None) ⊎ (result.fault ≡ Some TopFault.Write) }
+    ensures nothing_written { ¬ HasWritten result.fault → sink.new ≡ sink.old }
     ensures refused { (f : Fault) → result.fault ≡ Some (TopFault.Scenario f) → ReadsScenario mode × IsRefused (S.left source.old) (S.left source.new) f }
-    ensures unread { result.fault ≡ Some TopFault.Read → ReadsScenario mode × Rose (S.faults source.old) (S.faults source.new) }
+    ensures no_trace { (f : NoTrace) → result.fault ≡ Some (TopFault.Trace f) → (mode ≡ Mode.Check) × IsNoTrace (S.left source.old) (S.left source.new) f }
+    ensures unread { result.fault ≡ Some TopFault.Read → ReadsInput mode × Rose (S.faults source.old) (S.faults source.new) }
     ensures unwritten { result.fault ≡ Some TopFault.Write → Rose (K.faults sink.old) (K.faults sink.new) }
-    ensures reads { ReadsScenario mode → WasReadByCalls S.gives source.old source.new (result.fault ≡ Some TopFault.Read) }
-    ensures left_alone { ¬ ReadsScenario mode → source.new ≡ source.old }
+    ensures reads { ReadsInput mode → WasReadByCalls (limit_of mode) S.gives source.old source.new (result.fault ≡ Some TopFault.Read) }
+    ensures left_alone { ¬ ReadsInput mode → source.new ≡ source.old }
     ensures source_count { S.faults source.old ≤ S.faults source.new }
     ensures sink_count { K.faults sink.old ≤ K.faults sink.new }
     ensures due { IsDue mode (Rose (S.faults source.old) (S.faults source.new)) (Rose (K.faults sink.old) (K.faults sink.new)) (S.left source.old) result.fault }
@@ -45,5 +51,6 @@ pub(crate) fn run_mode<S: Source, K: Sink, T: Turnstile>(
         Mode::Play => play_read(alloc, Output::Report, source, sink, turnstile),
         Mode::Big { nodes, seed } => play_made(alloc, nodes, seed, sink, turnstile),
         Mode::Trace => play_read(alloc, Output::Trace, source, sink, turnstile),
+        Mode::Check => check_read(alloc, source, sink),
     }
 }

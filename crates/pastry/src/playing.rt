@@ -1,15 +1,16 @@
 //! Scenarios that are played: read, or made.
 
-ghost use Rattle.std.specs.Prelude.{◌≡◌, ◌≢◌, ◌≤◌, ◌↔◌, ◌⊎◌, Some, None, IfOk, IfSome, IsSome, IsNone};
+ghost use Rattle.std.specs.Prelude.{◌≡◌, ◌≤◌, ◌↔◌, ◌⊎◌, Some, None, IfOk, IfSome, IsSome, IsNone};
 ghost use Rattle.outside.specs.Rose.{Rose};
 ghost use Rattle.scenario_reader.specs.declared.limits.TheConstants.{MOST_NODES};
 ghost use Rattle.scenario_reader.specs.declared.fault.LineFault.{LineFault as Fault};
 ghost use Rattle.schedule.specs.Made.{made};
-ghost use Rattle.pastry.specs.Faults.{status_of, IsWritingFault};
+ghost use Rattle.pastry.specs.Faults.{status_of, IsMakingFault, IsPlayingFault};
 ghost use Rattle.pastry.specs.Outputs.{output_text};
-ghost use Rattle.pastry.specs.Played.{HasPlayed, IsPlayed};
+ghost use Rattle.pastry.specs.Played.{HasTold, IsPlayed};
 ghost use Rattle.pastry.specs.Prepared.{Prepares};
 ghost use Rattle.pastry.specs.Reading.{IsScenario, IsRefused};
+ghost use Rattle.pastry.specs.declared.reading.TheConstants.{INPUT_LIMIT};
 ghost use Rattle.pastry.specs.Written.{IsTaken, IsBrokenOff, WasReadByCalls};
 
 use crate::laws::headline_law;
@@ -41,9 +42,9 @@ fn play_scenario<T: Turnstile>(
 
 /// A record, and the text that is to be written of it.
 #[derive(Drop)]
-struct Prepared {
-    record: Record,
-    text: Frame,
+pub(crate) struct Prepared {
+    pub(crate) record: Record,
+    pub(crate) text: Frame,
 }
 
 /// Plays a scenario, and writes its text into memory.
@@ -53,7 +54,7 @@ fn prepare<T: Turnstile>(
     scenario: &Scenario,
     turnstile: &T,
 ) -> Result<Prepared, OutOfMemory>
-    ensures { IfOk result (λ p. Prepares (output_text output) scenario.now p.record p.text) }
+    ensures { IfOk result (λ p. Prepares IsPlayed (output_text output) scenario.now p.record p.text) }
 {
     let record = play_scenario(alloc, scenario, turnstile)?;
     let text = output_text(alloc, output, scenario, &record)?;
@@ -61,7 +62,7 @@ fn prepare<T: Turnstile>(
 }
 
 /// Writes a text to a sink, and hands out its record.
-fn write_prepared<K: Sink>(sink: &mut K, prepared: Prepared) -> Outcome
+pub(crate) fn write_prepared<K: Sink>(sink: &mut K, prepared: Prepared) -> Outcome
     ensures status { result.status ≡ status_of result.fault }
     ensures fault { (result.fault ≡ None) ⊎ (result.fault ≡ Some TopFault.Write) }
     ensures played { result.played ≡ Some prepared.record }
@@ -72,16 +73,8 @@ fn write_prepared<K: Sink>(sink: &mut K, prepared: Prepared) -> Outcome
 {
     let Prepared { record, text } = prepared;
     match write_all(sink, text.as_slice()) {
-        Ok(()) => Outcome {
-            status: 0,
-            fault: None,
-            played: Some(record),
-        },
-        Err(_) => Outcome {
-            status: 5,
-            fault: Some(TopFault::Write),
-            played: Some(record),
-        },
+        Ok(()) => Outcome::done(record),
+        Err(_) => Outcome::failed(TopFault::Write, Some(record)),
     }
 }
 
@@ -94,15 +87,15 @@ pub(crate) fn play_read<S: Source, K: Sink, T: Turnstile>(
     turnstile: &T,
 ) -> Outcome
     ensures status { result.status ≡ status_of result.fault }
-    ensures usage { result.fault ≢ Some TopFault.Usage }
-    ensures done { result.fault ≡ None → HasPlayed (IsScenario (S.left source.old) (S.left source.new)) (output_text output) (IsTaken K.takes K.taken sink.old sink.new) result.played }
-    ensures broken_off { result.fault ≡ Some TopFault.Write → HasPlayed (IsScenario (S.left source.old) (S.left source.new)) (output_text output) (IsBrokenOff K.takes K.taken sink.old sink.new) result.played }
+    ensures kind { IfSome result.fault IsPlayingFault }
+    ensures done { result.fault ≡ None → HasTold (IsScenario (S.left source.old) (S.left source.new)) IsPlayed (output_text output) (IsTaken K.takes K.taken sink.old sink.new) result.played }
+    ensures broken_off { result.fault ≡ Some TopFault.Write → HasTold (IsScenario (S.left source.old) (S.left source.new)) IsPlayed (output_text output) (IsBrokenOff K.takes K.taken sink.old sink.new) result.played }
     ensures played { IsSome result.played ↔ ((result.fault ≡ None) ⊎ (result.fault ≡ Some TopFault.Write)) }
     ensures nothing_written { IsNone result.played → sink.new ≡ sink.old }
     ensures refused { (f : Fault) → result.fault ≡ Some (TopFault.Scenario f) → IsRefused (S.left source.old) (S.left source.new) f }
     ensures unread { result.fault ≡ Some TopFault.Read → Rose (S.faults source.old) (S.faults source.new) }
     ensures unwritten { result.fault ≡ Some TopFault.Write → Rose (K.faults sink.old) (K.faults sink.new) }
-    ensures reads { WasReadByCalls S.gives source.old source.new (result.fault ≡ Some TopFault.Read) }
+    ensures reads { WasReadByCalls INPUT_LIMIT S.gives source.old source.new (result.fault ≡ Some TopFault.Read) }
     ensures source_count { S.faults source.old ≤ S.faults source.new }
     ensures sink_count { K.faults sink.old ≤ K.faults sink.new }
 {
@@ -127,9 +120,9 @@ pub(crate) fn play_made<K: Sink, T: Turnstile>(
     requires some { 2 ≤ nodes }
     requires few { nodes ≤ MOST_NODES }
     ensures status { result.status ≡ status_of result.fault }
-    ensures kind { IfSome result.fault IsWritingFault }
-    ensures done { result.fault ≡ None → HasPlayed (λ s. s ≡ made nodes seed) (output_text Output.Summary) (IsTaken K.takes K.taken sink.old sink.new) result.played }
-    ensures broken_off { result.fault ≡ Some TopFault.Write → HasPlayed (λ s. s ≡ made nodes seed) (output_text Output.Summary) (IsBrokenOff K.takes K.taken sink.old sink.new) result.played }
+    ensures kind { IfSome result.fault IsMakingFault }
+    ensures done { result.fault ≡ None → HasTold (λ s. s ≡ made nodes seed) IsPlayed (output_text Output.Summary) (IsTaken K.takes K.taken sink.old sink.new) result.played }
+    ensures broken_off { result.fault ≡ Some TopFault.Write → HasTold (λ s. s ≡ made nodes seed) IsPlayed (output_text Output.Summary) (IsBrokenOff K.takes K.taken sink.old sink.new) result.played }
     ensures played { IsSome result.played ↔ ((result.fault ≡ None) ⊎ (result.fault ≡ Some TopFault.Write)) }
     ensures nothing_written { IsNone result.played → sink.new ≡ sink.old }
     ensures unwritten { result.fault ≡ Some TopFault.Write → Rose (K.faults sink.old) (K.faults sink.new) }

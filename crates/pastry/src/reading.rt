@@ -21,7 +21,7 @@ pub fn read_input<S: Source>(alloc: Global, source: &mut S) -> Result<Scenario, 
     ensures kind { IfErr result IsReadingFault }
     ensures refused { (f : Fault) → result ≡ Err (TopFault.Scenario f) → IsRefused (S.left source.old) (S.left source.new) f }
     ensures unread { result ≡ Err TopFault.Read → Rose (S.faults source.old) (S.faults source.new) }
-    ensures calls { WasReadByCalls S.gives source.old source.new (result ≡ Err TopFault.Read) }
+    ensures calls { WasReadByCalls INPUT_LIMIT S.gives source.old source.new (result ≡ Err TopFault.Read) }
     ensures count { S.faults source.old ≤ S.faults source.new }
 {
     let bytes = match read_to_limit(alloc, source, INPUT_LIMIT) {

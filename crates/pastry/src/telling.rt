@@ -3,12 +3,13 @@
 
 use crate::cause::Cause;
 use crate::help::{Help, ask_for_help};
-use crate::message::{Before, Explained};
+use crate::message::{Before, Explained, Grouped};
 use cli_words::check_words;
 use scenario_reader::LineFault;
 use std::alloc::Global;
 use std::io;
 use std::rc::RcStr;
+use trace_check::{MOST_TRACE_BYTES, Part, TraceFault};
 
 /// The words of the command line are refused: which one and why, unless help was asked for, and which words there are.
 pub(crate) fn tell_refused_words(rt: &HostRuntime, alloc: Global, words: &[RcStr]) {
@@ -50,6 +51,32 @@ pub(crate) fn tell_scenario_fault(
             "pastry: the input is no scenario, and too little memory is left to show where"
         ),
     };
+}
+
+/// The input is no trace.
+pub(crate) fn tell_trace_fault(rt: &HostRuntime, fault: &TraceFault) {
+    let _ = match fault {
+        TraceFault::TooLong { .. } => eprintln!(rt;
+            "pastry: the input is longer than a trace can be, which is {} bytes",
+            Grouped(MOST_TRACE_BYTES as u64)
+        ),
+        TraceFault::Line { line } => eprintln!(rt;
+            "pastry: line {line}: expected a line of a trace that may stand here (docs/TRACES.md); a trace ends with its line \"end\""
+        ),
+        TraceFault::OutOfMemory => eprintln!(rt; "pastry: too little memory"),
+    };
+}
+
+/// The record of a trace is not legal, and this is the first entry that may not stand where it stands.
+pub(crate) fn tell_wrong(rt: &HostRuntime, entry: u64, part: Part) {
+    let what = match part {
+        Part::Event => {
+            "cannot happen there: its node is none of the trace's, its message was not sent before, or its number is not new"
+        }
+        Part::Sent => "did not send what the rules say",
+        Part::Notes => "did not note what the rules say",
+    };
+    let _ = eprintln!(rt; "pastry: entry {entry}, counted from 1, {what}");
 }
 
 /// A device failed, for this reason of the system if it gave one.

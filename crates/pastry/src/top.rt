@@ -1,20 +1,23 @@
 //! One run of the program: what is read, played and written.
 
-ghost use Rattle.std.specs.Prelude.{◌≡◌, ◌≢◌, ◌≤◌, ◌↔◌, ◌⊎◌, ℕ, map, Some, None, IsSome, IsNone};
+ghost use Rattle.std.specs.Prelude.{◌≡◌, ◌≢◌, ◌≤◌, ◌↔◌, ◌⊎◌, ℕ, map, Some, None, IsSome};
 ghost use Rattle.std.specs.Rc.{rc_str_bytes};
 ghost use Rattle.outside.specs.Rose.{Rose};
 ghost use Rattle.scenario_reader.specs.declared.fault.LineFault.{LineFault as Fault};
+ghost use Rattle.trace_text.specs.declared.fault.TraceFault.{TraceFault as NoTrace};
+ghost use Rattle.trace_check.specs.declared.verdict.Part.{Part as WrongPart};
 ghost use Rattle.cli_words.specs.declared.mode.Mode.{Mode as Asked};
 ghost use Rattle.pastry.specs.Asked.{AskFor, AskForOneThat, AreUsage, NamePlainly};
 ghost use Rattle.pastry.specs.Due.{IsDue};
-ghost use Rattle.pastry.specs.Faults.{status_of};
+ghost use Rattle.pastry.specs.Checked.{HasFoundWrong, IsNoTrace};
+ghost use Rattle.pastry.specs.Faults.{status_of, HasWritten};
 ghost use Rattle.pastry.specs.Reading.{IsRefused};
-ghost use Rattle.pastry.specs.Runs.{IsDone, ReadsScenario};
+ghost use Rattle.pastry.specs.Runs.{IsAtItsText, IsDone, ReadsInput, ReadsScenario, limit_of};
 ghost use Rattle.pastry.specs.Written.{IsTaken, IsBrokenOff, WasReadByCalls};
 
 use crate::modes::run_mode;
 use crate::outcome::{Outcome, TopFault};
-use cli_words::{WordFault, read_words};
+use cli_words::{Mode, WordFault, read_words};
 use outside::{Sink, Source, Turnstile};
 use std::alloc::Global;
 use std::rc::RcStr;
@@ -22,8 +25,8 @@ use std::sync::Wait;
 use std::thread::Threads;
 
 /// One run of the program. The words ask for a mode: `play` reads a scenario from the source, plays it, and writes its report to
-/// the sink; `trace` does the same, and writes the record itself; `big` plays a scenario that it makes, and writes its summary.
-/// The text is whole in memory before its first byte is written.
+/// the sink; `trace` plays it, and writes the record itself; `big` plays a scenario that it makes, and writes its summary;
+/// `check` reads a trace, and writes whether its record is legal or where it is wrong first. The text is whole in memory before its first byte is written.
 pub fn top<R: Threads + Wait + Sync, S: Source, K: Sink, T: Turnstile + Sync>(
     rt: &R,
     alloc: Global,
@@ -32,27 +35,36 @@ pub fn top<R: Threads + Wait + Sync, S: Source, K: Sink, T: Turnstile + Sync>(
     sink: &mut K,
     turnstile: &T,
 ) -> Outcome
-    // The status is that of the fault. A record is handed out exactly with status 0 and 5, and where none is, nothing is written.
+    // The status is that of the fault. A record is handed out with status 0 and 5 alone. Nothing is written but with these, and
+    // with the fault that a record is wrong.
     ensures status { result.status ≡ status_of result.fault }
-    ensures played { IsSome result.played ↔ ((result.fault ≡ None) ⊎ (result.fault ≡ Some TopFault.Write)) }
-    ensures nothing_written { IsNone result.played → sink.new ≡ sink.old }
+    ensures played { IsSome result.played → (result.fault ≡ None) ⊎ (result.fault ≡ Some TopFault.Write) }
+    ensures nothing_written { ¬ HasWritten result.fault → sink.new ≡ sink.old }
 
-    // Without a fault the words ask for a mode, and its scenario was played: in `play` and `trace` the source was read to its
-    // end, and what it had is that scenario; in `big` it was made, and the source is as it was. The record is the scenario's
-    // played record, and the headline holds of it: one owner per key, and one plain table of files. The sink took its whole
-    // text, by calls that offered each time what was left. With a fault of the sink all is the same, but for the text, which
-    // breaks off at the call that failed.
+    // Without a fault the words ask for a mode, and what it is to do was done, with a record that is handed out. In `play` and
+    // `trace` the source was read to its end, what it had is a scenario, and that was played; in `big` one was made and played,
+    // and the source is as it was; the record is the scenario's played record. In `check` the source was read to its end, what
+    // it had is a trace, and the record is that of the trace, and legal. In each mode the headline holds of the record, whoever
+    // made it: one owner per key, and one plain table of files. The sink took the whole text, by calls that offered each time
+    // what was left. With a fault of the sink all is the same, but for the text, which breaks off at the call that failed; and
+    // that `check` may then have found a record wrong, and hands out none.
     ensures done { result.fault ≡ None → AskForOneThat (map rc_str_bytes words.now) (λ mode. IsDone mode S.left source.old source.new (IsTaken K.takes K.taken sink.old sink.new) result.played) }
-    ensures broken_off { result.fault ≡ Some TopFault.Write → AskForOneThat (map rc_str_bytes words.now) (λ mode. IsDone mode S.left source.old source.new (IsBrokenOff K.takes K.taken sink.old sink.new) result.played) }
+    ensures broken_off { result.fault ≡ Some TopFault.Write → AskForOneThat (map rc_str_bytes words.now) (λ mode. IsAtItsText mode S.left source.old source.new (IsBrokenOff K.takes K.taken sink.old sink.new) result.played) }
+
+    // A record is wrong, by the fault, exactly at this entry and this part of it: the source was read to its end, what it had is
+    // a trace, and this entry is the first of its record that may not stand where it stands. The sink took the line that says so.
+    ensures wrong { (entry : ℕ) (part : WrongPart) → result.fault ≡ Some (TopFault.Wrong entry part) →
+        AskFor (map rc_str_bytes words.now) Mode.Check × HasFoundWrong (S.left source.old) (S.left source.new) (IsTaken K.takes K.taken sink.old sink.new) result.played entry part }
 
     // Each fault has its cause. Want of memory alone is free. The source is as it was unless the words ask for a mode that reads
-    // a scenario; then it was read by calls, of which one that failed was the last. So Usage and `big` leave it as it is.
+    // it; then it was read by calls, of which one that failed was the last. So Usage and `big` leave it as it is.
     ensures usage { result.fault ≡ Some TopFault.Usage → AreUsage (map rc_str_bytes words.now) }
     ensures nothing_read { result.fault ≡ Some TopFault.Usage → source.new ≡ source.old }
-    ensures untouched { (source.new ≡ source.old) ⊎ (AskForOneThat (map rc_str_bytes words.now) ReadsScenario × WasReadByCalls S.gives source.old source.new (result.fault ≡ Some TopFault.Read)) }
-    ensures left_alone { (mode : Asked) → NamePlainly (map rc_str_bytes words.now) mode → ¬ ReadsScenario mode → source.new ≡ source.old }
+    ensures untouched { (source.new ≡ source.old) ⊎ AskForOneThat (map rc_str_bytes words.now) (λ mode. ReadsInput mode × WasReadByCalls (limit_of mode) S.gives source.old source.new (result.fault ≡ Some TopFault.Read)) }
+    ensures left_alone { (mode : Asked) → NamePlainly (map rc_str_bytes words.now) mode → ¬ ReadsInput mode → source.new ≡ source.old }
     ensures refused { (f : Fault) → result.fault ≡ Some (TopFault.Scenario f) → AskForOneThat (map rc_str_bytes words.now) ReadsScenario × IsRefused (S.left source.old) (S.left source.new) f }
-    ensures unread { result.fault ≡ Some TopFault.Read → AskForOneThat (map rc_str_bytes words.now) ReadsScenario × Rose (S.faults source.old) (S.faults source.new) }
+    ensures no_trace { (f : NoTrace) → result.fault ≡ Some (TopFault.Trace f) → AskFor (map rc_str_bytes words.now) Mode.Check × IsNoTrace (S.left source.old) (S.left source.new) f }
+    ensures unread { result.fault ≡ Some TopFault.Read → AskForOneThat (map rc_str_bytes words.now) ReadsInput × Rose (S.faults source.old) (S.faults source.new) }
     ensures unwritten { result.fault ≡ Some TopFault.Write → Rose (K.faults sink.old) (K.faults sink.new) }
     ensures source_count { S.faults source.old ≤ S.faults source.new }
     ensures sink_count { K.faults sink.old ≤ K.faults sink.new }

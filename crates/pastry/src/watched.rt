@@ -10,7 +10,7 @@ use std::io::{Read, Write};
 #[derive(Drop)]
 pub(crate) struct Seen {
     alloc: Global,
-    /// The bytes that were read; None once memory for them was refused.
+    /// The bytes that were read; None once memory for them was refused, or where they are not kept.
     bytes: Option<Vec<u8>>,
     /// Why it could not be read.
     pub(crate) fault: Option<io::Error>,
@@ -26,7 +26,16 @@ impl Seen {
         }
     }
 
-    /// The bytes that were read; None if memory for them was refused.
+    /// Nothing, and nothing is to be kept: no message shows this input.
+    pub(crate) fn unkept(alloc: Global) -> Seen {
+        Seen {
+            alloc,
+            bytes: None,
+            fault: None,
+        }
+    }
+
+    /// The bytes that were read; None if memory for them was refused, or they are not kept.
     pub(crate) fn bytes(&self) -> Option<&[u8]> {
         match &self.bytes {
             Some(bytes) => Some(bytes.as_slice()),

@@ -1,12 +1,12 @@
-use Rattle.pastry.proofs.Played.{HasPlayed-from_prepared}
+use Rattle.pastry.proofs.Played.{HasTold-from_prepared}
 use Rattle.pastry.proofs.playing.play_made.Goals as goal
 
 pub returns-in-Ok-prepare-clause-done : goal.returns-in-Ok-prepare-clause-done
 returns-in-Ok-prepare-clause-done g c = λ e.
-    HasPlayed-from_prepared _ _ _ _ c.in-Ok.scenario _ _ c.in-Ok-prepare.ensures c.in-Ok.ensures c.write_prepared.ensures.played
+    HasTold-from_prepared _ _ _ _ _ c.in-Ok.scenario _ _ c.in-Ok-prepare.ensures c.in-Ok.ensures c.write_prepared.ensures.played
     (c.write_prepared.ensures.whole e)
 
 pub returns-in-Ok-prepare-clause-broken_off : goal.returns-in-Ok-prepare-clause-broken_off
 returns-in-Ok-prepare-clause-broken_off g c = λ e.
-    HasPlayed-from_prepared _ _ _ _ c.in-Ok.scenario _ _ c.in-Ok-prepare.ensures c.in-Ok.ensures c.write_prepared.ensures.played
+    HasTold-from_prepared _ _ _ _ _ c.in-Ok.scenario _ _ c.in-Ok-prepare.ensures c.in-Ok.ensures c.write_prepared.ensures.played
     (c.write_prepared.ensures.part e)

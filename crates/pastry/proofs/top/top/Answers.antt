@@ -22,38 +22,45 @@ returns-in-Ok-clause-broken_off g c = λ e. record {
 pub returns-in-Ok-clause-untouched : goal.returns-in-Ok-clause-untouched
 returns-in-Ok-clause-untouched g c =
     elim (reads_or_not c.in-Ok.mode) [
-      | inl reads ↦ inr (
-        record {
-          mode = c.in-Ok.mode;
-          asked = AskFor-from_read _ _ c.in-Ok.mode refl (record { reads = c.in-Ok.ensures.reads; plain = c.in-Ok.ensures.plain });
-          holds = reads;
-        },
-        c.run_mode.ensures.reads reads,
-      )
+      | inl reads ↦ inr (record {
+        mode = c.in-Ok.mode;
+        asked = AskFor-from_read _ _ c.in-Ok.mode refl (record { reads = c.in-Ok.ensures.reads; plain = c.in-Ok.ensures.plain });
+        holds = (reads, c.run_mode.ensures.reads reads);
+      })
       | inr not ↦ inl (c.run_mode.ensures.left_alone not)
     ]
 
 pub returns-in-Ok-clause-refused : goal.returns-in-Ok-clause-refused
 returns-in-Ok-clause-refused g c = λ f e.
-    let refused = c.run_mode.ensures.refused f e in (
+    let said = c.run_mode.ensures.refused f e in (
       record {
         mode = c.in-Ok.mode;
         asked = AskFor-from_read _ _ c.in-Ok.mode refl (record { reads = c.in-Ok.ensures.reads; plain = c.in-Ok.ensures.plain });
-        holds = refused.0;
+        holds = said.0;
       },
-      refused.1,
+      said.1,
     )
 
 pub returns-in-Ok-clause-unread : goal.returns-in-Ok-clause-unread
 returns-in-Ok-clause-unread g c = λ e.
-    let unread = c.run_mode.ensures.unread e in (
+    let said = c.run_mode.ensures.unread e in (
       record {
         mode = c.in-Ok.mode;
         asked = AskFor-from_read _ _ c.in-Ok.mode refl (record { reads = c.in-Ok.ensures.reads; plain = c.in-Ok.ensures.plain });
-        holds = unread.0;
+        holds = said.0;
       },
-      unread.1,
+      said.1,
     )
+
+pub returns-in-Ok-clause-wrong : goal.returns-in-Ok-clause-wrong
+returns-in-Ok-clause-wrong g c = λ entry part e.
+    let said = c.run_mode.ensures.wrong entry part e in
+    (AskFor-from_read _ _ _ said.0 (record { reads = c.in-Ok.ensures.reads; plain = c.in-Ok.ensures.plain }), said.1)
+
+pub returns-in-Ok-clause-no_trace : goal.returns-in-Ok-clause-no_trace
+returns-in-Ok-clause-no_trace g c = λ f e.
+    let said = c.run_mode.ensures.no_trace f e in
+    (AskFor-from_read _ _ _ said.0 (record { reads = c.in-Ok.ensures.reads; plain = c.in-Ok.ensures.plain }), said.1)
 
 -- ---- no mode
 
