@@ -1,5 +1,6 @@
 -- The large scenario keeps the rules of scenarios: the names of its files differ, and its tasks are within the limits.
-use Rattle.std.proofs.Common.{◌≡◌, ◌≢◌, ◌<◌, ◌≤◌, ℕ, zero, suc, ◌+◌, ◌-◌, ◌*◌, true, IsTrue, List, [], ◌∷◌, ◌++◌, length, length-append, codes, decimal, map, get_or, replicate, All, AllPairs}
+use Rattle.std.proofs.Common.{◌≡◌, ◌≢◌, ◌<◌, ◌≤◌, ℕ, zero, suc, ◌+◌, ◌-◌, ◌*◌, true, IsTrue, List, [], ◌∷◌, ◌++◌, length, length-append, codes}
+use Rattle.std.proofs.Common.{decimal, map, get_or, replicate, All, AllPairs}
 use Rattle.std.proofs.Common.{refl, sym, subst, ap, ◌∙◌, zero-add, arith, add-one, append_assoc, append-nil, drop, drop-cons}
 use Rattle.std.specs.List.{flat_map, range_with_len, AllByRecursion}
 use Rattle.std.proofs.lemmas.List.{map-append, length-map, length-take, drop_all}
@@ -19,7 +20,8 @@ use Rattle.std.specs.Int.{div_ceil}
 use Rattle.schedule.specs.Words.{stream_bytes}
 use Rattle.fragments.specs.Pieces.{fragment, fragment_count, pieces_of}
 use Rattle.fragments.proofs.Returning.{count_few}
-use Rattle.fragments.specs.Large.{generated, generated_bytes, declared, fragment_label, declared_from, declared_pieces, store_tasks, retrieve_tasks, large_plan, large_making, large}
+use Rattle.fragments.specs.Large.{generated, generated_bytes, declared, fragment_label, declared_from, declared_pieces, store_tasks, retrieve_tasks}
+use Rattle.fragments.specs.Large.{large_plan, large_making, large}
 
 -- ---- names
 
@@ -83,7 +85,8 @@ length_of_all pieces =
 -- ---- fragments are declared one after another
 
 pub declare_more : (i : ℕ) (before now next : List MadeFile) (pieces : List Piece) (d : Piece) (file : MadeFile) → i < length pieces →
-    now ++ declared_from i (drop i pieces) ≡ before ++ declared_from 0 pieces → next ≡ now ++ file ∷ [] → file ≡ declared (fragment_label i) (get_or pieces i d) →
+    now ++ declared_from i (drop i pieces) ≡ before ++ declared_from 0 pieces → next ≡ now ++ file ∷ [] →
+    file ≡ declared (fragment_label i) (get_or pieces i d) →
     next ++ declared_from (i + 1) (drop (i + 1) pieces) ≡ before ++ declared_from 0 pieces
 declare_more i before now next pieces d file h at is same =
     ap (λ (files : List MadeFile). files ++ declared_from (i + 1) (drop (i + 1) pieces)) (is ∙ ap (λ (f : MadeFile). now ++ f ∷ []) same) ∙

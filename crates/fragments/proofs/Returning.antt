@@ -1,5 +1,6 @@
 -- What was cut is joined again: the index states what is so, each fragment has its size, and one behind the other they are the file.
-use Rattle.std.proofs.Common.{◌≡◌, ◌<◌, ◌≤◌, ℕ, zero, suc, ◌+◌, ◌-◌, ◌*◌, ◌/◌, ◌%◌, ◌^◌, min, Bool, true, false, not, if◌then◌else◌, Option, Some, None, List, [], ◌∷◌, ◌++◌}
+use Rattle.std.proofs.Common.{◌≡◌, ◌<◌, ◌≤◌, ℕ, zero, suc, ◌+◌, ◌-◌, ◌*◌, ◌/◌, ◌%◌, ◌^◌, min, Bool, true, false, not, if◌then◌else◌, Option, Some}
+use Rattle.std.proofs.Common.{None, List, [], ◌∷◌, ◌++◌}
 use Rattle.std.proofs.Common.{length, length-append, length-drop, map, take, drop, refl, sym, subst, ap, ◌∙◌, arith, append_assoc, le-ltb, eq-eqb}
 use Rattle.std.specs.Int.{w16, w32, to_be_bytes, from_be_bytes}
 use Rattle.std.specs.List.{flat_map, range_with_len}
@@ -22,7 +23,8 @@ length_of_file : (name owner salt : List ℕ) → length (file_of name owner sal
 unfolding sha1 digest_bytes
 length_of_file name owner salt = refl
 
-pub length_of_files : (f : LargeFile) (ns : List ℕ) → length (flat_map (λ (file : FileId). file) (map (λ (p : Piece). p.file) (map (fragment f) ns))) ≡ 20 * length ns
+pub length_of_files : (f : LargeFile) (ns : List ℕ) → length (flat_map (λ (file : FileId). file)
+    (map (λ (p : Piece). p.file) (map (fragment f) ns))) ≡ 20 * length ns
 length_of_files f [] = refl
 length_of_files f (n ∷ ns) =
     let one = length_of_file (f.name ++ to_be_bytes w32 n) f.owner f.salt in

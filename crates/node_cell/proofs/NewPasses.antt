@@ -52,14 +52,16 @@ one_has_all post mailboxes start own c of fresh left given = record {
       let cell_parts : parts_at place c ≡ (pass_at (map split_off (all_fresh mailboxes)) place).parts =
       ap (λ (o : Option Carried). (pass_at (passes_in o) place).parts) given
       ∙ ap (λ (ps : List PassView). (pass_at (map split_off ps) place).parts) fresh in
-      let long : length start ≡ length mailboxes = ap (λ (ps : List PassView). length ps) fresh ∙ length-map mailboxes (λ mailbox. fresh_pass mailbox ALL_PARTS) in
+      let long : length start ≡ length mailboxes = ap (λ (ps : List PassView). length ps) fresh ∙
+      length-map mailboxes (λ mailbox. fresh_pass mailbox ALL_PARTS) in
       let count = of.count in
       omega (arith, two_parts mailboxes place (omega arith), sum_by-cons (parts_at place) c []);
 }
 
 pub none_put : (mailboxes : List (ℕ × ℕ)) (start own : List PassView) → start ≡ all_fresh mailboxes → own ≡ map after_split start → PutNoiseAlone own
-none_put mailboxes start own fresh left = subst PutNoiseAlone (sym (left ∙ ap (map after_split) fresh)) (record { noise = λ place frame v c spells. nothing mailboxes place frame c }) where
-  nothing : (ms : List (ℕ × ℕ)) (place : ℕ) (frame : List ℕ) → Contains (pass_at (map after_split (all_fresh ms)) place).put frame → ⊥
-  nothing [] place frame c = omega (arith, c.1)
-  nothing (m ∷ ms) zero frame c = omega (arith, c.1)
-  nothing (m ∷ ms) (suc place) frame c = nothing ms place frame c
+none_put mailboxes start own fresh left = subst PutNoiseAlone (sym (left ∙ ap (map after_split) fresh))
+    (record { noise = λ place frame v c spells. nothing mailboxes place frame c }) where
+      nothing : (ms : List (ℕ × ℕ)) (place : ℕ) (frame : List ℕ) → Contains (pass_at (map after_split (all_fresh ms)) place).put frame → ⊥
+      nothing [] place frame c = omega (arith, c.1)
+      nothing (m ∷ ms) zero frame c = omega (arith, c.1)
+      nothing (m ∷ ms) (suc place) frame c = nothing ms place frame c

@@ -1,5 +1,6 @@
 -- The first of several lines, found one line after another.
-use Rattle.std.proofs.Common.{◌≡◌, ◌≤◌, ℕ, zero, suc, ◌+◌, min, Bool, true, false, Option, Some, None, slice_get, List, [], ◌∷◌, ◌++◌, map, filter, take, get_or, length, refl, ap, ◌∙◌}
+use Rattle.std.proofs.Common.{◌≡◌, ◌≤◌, ℕ, zero, suc, ◌+◌, min, Bool, true, false, Option, Some, None, slice_get, List, [], ◌∷◌, ◌++◌, map, filter}
+use Rattle.std.proofs.Common.{take, get_or, length, refl, ap, ◌∙◌}
 use Rattle.std.proofs.Common.{append-nil, arith}
 use Rattle.std.specs.Prelude.{option_to_list}
 use Rattle.std.specs.List.{fold}

@@ -86,7 +86,8 @@ pub said_no_other : (a : Action) (x y : Id) (n : Number) (command : NodeCommand)
 said_no_other a x y n command h ne =
     ap (said_to y) h.is ∙ cond-false (x == y) (Command n command ∷ []) [] (ne_eqb x y (λ e. ne (sym e)))
 
-pub told_own : (a : Action) (c : Cell) (n : Number) (command : NodeCommand) → IsCommandOf a c.node n command → told (a ∷ []) c ≡ with_input c (Command n command)
+pub told_own : (a : Action) (c : Cell) (n : Number) (command : NodeCommand) → IsCommandOf a c.node n command →
+    told (a ∷ []) c ≡ with_input c (Command n command)
 told_own a c n command h = ap (λ is. with_inputs c (is ++ [])) (said_own a c.node n command h)
 
 later_apart : (x : Id) (cells : List Cell) → not (is_in (nodes cells) x) ≡ true → Each (λ (d : Cell). d.node ≢ x) cells

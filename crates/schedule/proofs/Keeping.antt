@@ -1,5 +1,6 @@
 -- The actions of a made scenario keep the rules of scenarios: they name declared nodes and files, and their deliveries are few.
-use Rattle.std.proofs.Common.{◌≡◌, ◌<◌, ◌≤◌, ℕ, zero, suc, ◌+◌, ◌-◌, ◌*◌, ◌^◌, List, [], ◌∷◌, ◌++◌, length, length-append, map, get_or, slice_index_or, Contains, None, IsNone}
+use Rattle.std.proofs.Common.{◌≡◌, ◌<◌, ◌≤◌, ℕ, zero, suc, ◌+◌, ◌-◌, ◌*◌, ◌^◌, List, [], ◌∷◌, ◌++◌, length, length-append, map, get_or}
+use Rattle.std.proofs.Common.{slice_index_or, Contains, None, IsNone}
 use Rattle.std.proofs.Common.{subst, refl, sym, ap, ◌∙◌, zero-add, add-zero, arith}
 use Rattle.std.specs.List.{flat_map, range_with_len, AllByRecursion}
 use Rattle.std.proofs.Math.Nat.{mod-lt}
@@ -16,7 +17,8 @@ use Rattle.scenario_reader.specs.Tallies.{start, tallied, tally_from}
 use Rattle.schedule.specs.declared.task.Task.{Task}
 use Rattle.schedule.specs.declared.task.Task.TheVariants.{Join, Insert, Fetch, Settle, Shuffle}
 use Rattle.schedule.specs.declared.file.MadeFile.{MadeFile}
-use Rattle.schedule.specs.Making.{Making, IsMaking, AreTasks, node_id, node_line, no_file, file_at, file_line, node_lines, file_lines, what_of, number_after, written}
+use Rattle.schedule.specs.Making.{Making, IsMaking, AreTasks, node_id, node_line, no_file, file_at, file_line, node_lines, file_lines, what_of}
+use Rattle.schedule.specs.Making.{number_after, written}
 use Rattle.schedule.specs.Plan.{IsTask, deliveries_of, deliveries_in, in_threes, join_alone, group_tasks, insert_tasks, fetch_tasks, join_plan, plan}
 
 -- ---- what tasks name is declared
@@ -149,7 +151,8 @@ groups_are_tasks : (nodes files : ℕ) (groups : List (List ℕ)) → Each (λ (
     Each (IsTask nodes files) (flat_map group_tasks groups)
 groups_are_tasks nodes files [] h = tt
 groups_are_tasks nodes files (members ∷ groups) h =
-    Each-append (IsTask nodes files) (group_tasks members) (flat_map group_tasks groups) (group_is_tasks nodes files members h.0) (groups_are_tasks nodes files groups h.1)
+    Each-append (IsTask nodes files) (group_tasks members) (flat_map group_tasks groups) (group_is_tasks nodes files members h.0)
+    (groups_are_tasks nodes files groups h.1)
 
 inserts_are_tasks : (nodes : ℕ) (files : List ℕ) → Each (λ j. j < 20) files → Each (IsTask nodes 20) (flat_map insert_tasks files)
 inserts_are_tasks nodes [] h = tt
@@ -222,7 +225,8 @@ plan_is_few nodes h =
 
 pub plan_may_be_made : (m : Making) → 2 ≤ m.nodes → m.nodes ≤ 256 → length m.files ≡ 20 → AreTasks m (plan m.nodes)
 plan_may_be_made m some few twenty = record {
-  each = subst (λ n. AllByRecursion (IsTask m.nodes n) (plan m.nodes)) (sym twenty) (by_recursion (IsTask m.nodes 20) (plan m.nodes) (plan_is_tasks m.nodes some));
+  each = subst (λ n. AllByRecursion (IsTask m.nodes n) (plan m.nodes)) (sym twenty)
+      (by_recursion (IsTask m.nodes 20) (plan m.nodes) (plan_is_tasks m.nodes some));
   few = (plan_is_few m.nodes few).1;
   deliveries = (plan_is_few m.nodes few).0;
 }

@@ -1,5 +1,6 @@
 -- Names and identifiers of a made scenario: how they are spelled, and that they differ.
-use Rattle.std.proofs.Common.{◌≡◌, ◌≢◌, ◌<◌, ◌≤◌, ℕ, zero, suc, ◌+◌, ◌-◌, ◌*◌, ◌%◌, ◌^◌, true, IsTrue, List, [], ◌∷◌, ◌++◌, length, length-append, drop, decimal, All, AllPairs, map}
+use Rattle.std.proofs.Common.{◌≡◌, ◌≢◌, ◌<◌, ◌≤◌, ℕ, zero, suc, ◌+◌, ◌-◌, ◌*◌, ◌%◌, ◌^◌, true, IsTrue, List, [], ◌∷◌, ◌++◌, length, length-append}
+use Rattle.std.proofs.Common.{drop, decimal, All, AllPairs, map}
 use Rattle.std.proofs.Common.{get_or, refl, sym, subst, ap, ◌∙◌, zero-add, le-leb, arith}
 use Rattle.std.specs.List.{range_with_len}
 use Rattle.std.specs.Char.{digit_value}
@@ -10,7 +11,8 @@ use Rattle.std.proofs.lemmas.Fmt.{decimal_is_IsNumeral, length-decimal-le}
 use Rattle.std.proofs.Math.Seq.{get_or-append_seam}
 use Rattle.std.proofs.lemmas.List.{get_or-map, length-map, map-append, get_or_append_left}
 use Rattle.std.proofs.lemmas.List.Elements.{All-map}
-use Rattle.std.proofs.lemmas.List.FromFn.{length-map-range_with_len, map-range_with_len_more, length-range_with_len, get_or-range_with_len, get_or-map-range_with_len}
+use Rattle.std.proofs.lemmas.List.FromFn.{length-map-range_with_len, map-range_with_len_more, length-range_with_len, get_or-range_with_len}
+use Rattle.std.proofs.lemmas.List.FromFn.{get_or-map-range_with_len}
 use Rattle.overlay_rules.proofs.Each.{Each}
 use Rattle.ring_math.specs.Keys.{number_from}
 use Rattle.scenario_reader.specs.declared.node.NodeLine.{NodeLine}

@@ -16,9 +16,11 @@ use Rattle.scribe_core.specs.declared.message.GroupMessage.{GroupMessage}
 use Rattle.scribe_core.specs.declared.message.GroupMessage.TheVariants as message
 use Rattle.scribe_core.specs.declared.note.GroupNote.{GroupNote}
 use Rattle.scribe_core.specs.declared.note.GroupNote.TheVariants as note
-use Rattle.scribe_core.specs.Parts.{GroupName, Part, Place, Loose, Root, Under, Orphan, Input, Command, Comes, Addressed, Outcome, becomes, nothing, noting, to, to_each}
+use Rattle.scribe_core.specs.Parts.{GroupName, Part, Place, Loose, Root, Under, Orphan, Input, Command, Comes, Addressed, Outcome, becomes, nothing}
+use Rattle.scribe_core.specs.Parts.{noting, to, to_each}
 use Rattle.scribe_core.specs.Tree.{attach, attached, attached_from, is_idle, trim, trimmed_from, with_child, without_child}
-use Rattle.scribe_core.specs.Step.{cast, group_step, heard, on_leave, on_prune, on_graft, on_publish, on_published, on_subscribe, refuse, subscribe, subscribe_beside}
+use Rattle.scribe_core.specs.Step.{cast, group_step, heard, on_leave, on_prune, on_graft, on_publish, on_published, on_subscribe, refuse, subscribe}
+use Rattle.scribe_core.specs.Step.{subscribe_beside}
 use Rattle.scribe_core.specs.Laws.{IsNoWay, is_heard}
 
 -- the input brings these bytes with this number

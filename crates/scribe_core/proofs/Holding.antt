@@ -34,7 +34,8 @@ use Rattle.scribe_core.specs.declared.message.GroupSent.{GroupSent}
 use Rattle.scribe_core.specs.declared.note.GroupNote.{GroupNote}
 use Rattle.scribe_core.specs.declared.note.GroupNote.TheVariants as note
 use Rattle.scribe_core.specs.Parts.{GroupName, Part, Under, Input, Command, Comes, Addressed}
-use Rattle.scribe_core.specs.Record.{Groups, Noted, Visit, IsFresh, IsFreshAfter, Follows, after, by, no_groups, noted_by, part_at, parts_after, sent_from, sent_in}
+use Rattle.scribe_core.specs.Record.{Groups, Noted, Visit, IsFresh, IsFreshAfter, Follows, after, by, no_groups, noted_by, part_at, parts_after}
+use Rattle.scribe_core.specs.Record.{sent_from, sent_in}
 use Rattle.scribe_core.specs.Record.{step_at, visit, visit_of, way_in}
 use Rattle.scribe_core.specs.Laws.{WasPublished, is_heard, is_heard_at, sent_to}
 use Rattle.scribe_core.proofs.Facts.{Brings, Facts, Hears, IsDueNote, IsDueSend, step_facts}

@@ -72,7 +72,8 @@ module _ (g : Setting) (overlay : World) (set : IsSetting g) (messages : Message
     visited : (i : ℕ) (e : GroupEntry) (at : Visit) (f : Follows g overlay (groups_after overlay es i) e) → visit (sent_in (take i es)) e.event ≡ Some at →
         f.at ≡ at
     visited i e at f is =
-        let there : visit (sent_in (take i es)) e.event ≡ Some f.at = subst (λ past. visit (sent_in past) e.event ≡ Some f.at) (past_after overlay es i) f.is_at in
+        let there : visit (sent_in (take i es)) e.event ≡ Some f.at =
+        subst (λ past. visit (sent_in past) e.event ≡ Some f.at) (past_after overlay es i) f.is_at in
         let same : Some f.at ≡ Some at = sym there ∙ is in cc
 
     -- ---- heard once
@@ -84,7 +85,8 @@ module _ (g : Setting) (overlay : World) (set : IsSetting g) (messages : Message
           f : Follows g overlay (groups_after overlay es i) notes.entry
           f = follows i notes.entry notes.there
 
-          hears : Hears f.at.group ((groups_after overlay es i).parts f.at.node f.at.group) (step_at overlay (groups_after overlay es i) f.at).part f.at.input name n b
+          hears : Hears f.at.group ((groups_after overlay es i).parts f.at.node f.at.group)
+              (step_at overlay (groups_after overlay es i) f.at).part f.at.input name n b
           hears = due_note g overlay set messages (groups_after overlay es i) notes.entry (here i) f (note.Heard name n b) notes.noted
 
           member : ((groups_after overlay es (i + 1)).parts f.at.node name).is_member ≡ true

@@ -19,4 +19,5 @@ loop-stage-preserved c =
     omega arith
 
 pub returns : goal.returns
-returns c = c.loop-stage.invariant ∙ ap (λ (codes : List CodeStage). most_copies (map shown codes)) (take_all c.loop-stage.stage-index c.args.stages.now (omega arith))
+returns c = c.loop-stage.invariant ∙ ap (λ (codes : List CodeStage). most_copies (map shown codes))
+    (take_all c.loop-stage.stage-index c.args.stages.now (omega arith))

@@ -24,7 +24,8 @@ returns c = λ g past h.
     let member : Contains g.nodes c.args.node =
     subst (λ ids. Contains ids c.args.node) h.ids (contains-at _ c.in-Some.at c.args.node c.in-Some.ensures.some.0 c.in-Some.ensures.some.1) in
     let numbers : AreNumbersOf c.step.new.self.numbers (past ++ e ∷ []) =
-    subst (λ (a : Numbers). AreNumbersOf a (past ++ e ∷ [])) (sym c.step.ensures.numbers) (c.in_ok-add.ensures past e c.args.command.now h.numbers refl fresh) in
+    subst (λ (a : Numbers). AreNumbersOf a (past ++ e ∷ [])) (sym c.step.ensures.numbers)
+    (c.in_ok-add.ensures past e c.args.command.now h.numbers refl fresh) in
     IfOk-weaker c.step.result _ (IsReplayedOrWrong c.step.new.self g past e)
     (λ found stepped. replayed c.args.self.now c.step.new.self g past e c.args.node (Command c.args.number c.args.command.now) found refl member fresh
     c.step.ensures.ids h numbers

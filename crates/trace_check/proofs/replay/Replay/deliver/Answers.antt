@@ -5,4 +5,5 @@ use Rattle.trace_check.proofs.replay.Replay.deliver.Goals as goal
 
 pub returns-in-None : goal.returns-in-None
 returns-in-None c = λ g past h all.
-    no_message g past (event.Deliver c.args.message) (undelivered c.args.sent.now past c.args.message all (slice_get_past c.args.sent.now c.args.message c.in-None.ensures.lookup.3))
+    no_message g past (event.Deliver c.args.message) (undelivered c.args.sent.now past c.args.message all
+    (slice_get_past c.args.sent.now c.args.message c.in-None.ensures.lookup.3))
