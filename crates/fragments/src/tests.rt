@@ -86,35 +86,45 @@ fn fault(alloc: Global, index: &[u8], found: &[Option<Bytes>]) -> Option<JoinFau
     }
 }
 
+/// A fragment of so many bytes.
+fn some_bytes(alloc: Global, size: usize) -> Result<Option<Bytes>, Fail> {
+    let bytes = sample(alloc, size)?;
+    Ok(Some(Bytes::copy_of(alloc, &bytes)?))
+}
+
+/// What is at fault where these two are joined.
+fn fault_of_two(
+    alloc: Global,
+    index: &[u8],
+    one: Option<Bytes>,
+    other: Option<Bytes>,
+) -> Result<Option<JoinFault>, Fail> {
+    let mut found = Vec::new(alloc);
+    found.push(one)?;
+    found.push(other)?;
+    Ok(fault(alloc, index, &found))
+}
+
 /// Two fragments that are swapped, one that is short, a missing one, and one too few.
 #[test]
 fn fragments_are_at_fault_in_order(rt: HostRuntime) -> Result<(), Fail> {
     let alloc = rt.alloc();
-    let empty = Bytes::copy_of(alloc, b"")?;
     let pieces = cut_sample(alloc, 4_097)?;
     let index = pieces.index.bytes.as_slice();
-    let mut found = found_in(alloc, &pieces)?;
-    found.swap(0, 1);
-    assert_eq!(rt;
-        fault(alloc, index, &found),
-        Some(JoinFault::Size { fragment: 0 })
-    );
-    found.swap(0, 1);
-    found[1] = Some(empty);
-    assert_eq!(rt;
-        fault(alloc, index, &found),
-        Some(JoinFault::Size { fragment: 1 })
-    );
-    found[1] = None;
-    assert_eq!(rt;
-        fault(alloc, index, &found),
-        Some(JoinFault::Missing { fragment: 1 })
-    );
+    let (short, full) = (some_bytes(alloc, 1)?, some_bytes(alloc, 4_096)?);
+    let swapped = fault_of_two(alloc, index, short, full)?;
+    assert_eq!(rt; swapped, Some(JoinFault::Size { fragment: 0 }));
+    let (full, empty) = (some_bytes(alloc, 4_096)?, some_bytes(alloc, 0)?);
+    let cut_off = fault_of_two(alloc, index, full, empty)?;
+    assert_eq!(rt; cut_off, Some(JoinFault::Size { fragment: 1 }));
+    let full = some_bytes(alloc, 4_096)?;
+    let missing = fault_of_two(alloc, index, full, None)?;
+    assert_eq!(rt; missing, Some(JoinFault::Missing { fragment: 1 }));
     let few = JoinFault::Count {
         stated: 2,
         found: 1,
     };
-    assert_eq!(rt; fault(alloc, index, &found[..1]), Some(few));
+    assert_eq!(rt; fault(alloc, index, &[None]), Some(few));
     Ok(())
 }
 
