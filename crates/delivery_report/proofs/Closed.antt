@@ -9,7 +9,7 @@ use Rattle.wire_msg.specs.declared.note.Note.TheVariants as note
 use Rattle.wire_msg.specs.declared.reply.Answer.{Answer}
 use Rattle.scenario_reader.specs.declared.node.NodeLine.{NodeLine}
 use Rattle.delivery_report.specs.Report.{closing_of, closings_from, command_line, lines_from}
-use Rattle.delivery_report.proofs.Steps.{take-next}
+use Rattle.overlay_rules.proofs.Prefixes.{take-next}
 
 pub option_or_assoc : {A : Type 0} (a b c : Option A) → option_or (option_or a b) c ≡ option_or a (option_or b c)
 option_or_assoc None b c = refl

@@ -7,7 +7,7 @@ use Rattle.std.proofs.lemmas.List.Sums.{sum_by-cons}
 use Rattle.overlay_rules.specs.declared.entry.Entry.{Entry}
 use Rattle.overlay_rules.specs.Played.{is_delivery_of}
 use Rattle.delivery_report.specs.Report.{undelivered_among}
-use Rattle.delivery_report.proofs.Steps.{take-got}
+use Rattle.overlay_rules.proofs.Prefixes.{take-got}
 
 count_unset-cons : (mark : Bool) (marks : List Bool) → count_by not (mark ∷ marks) ≡ (if mark then count_by not marks else suc (count_by not marks))
 count_unset-cons true marks = sum_by-cons _ true marks ∙ zero-add _

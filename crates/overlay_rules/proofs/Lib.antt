@@ -1,6 +1,7 @@
 pub mod Each
 pub mod Cut
 pub mod Histories
+pub mod Prefixes
 pub mod OneMore
 pub mod Seat
 pub mod SeatStep

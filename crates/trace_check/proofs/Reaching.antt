@@ -1,16 +1,12 @@
 -- The verdict on a record: one entry more that follows, the first that does not, and that there is one verdict.
 use Rattle.std.proofs.Common.{◌≡◌, ◌≤◌, ◌+◌, ℕ, suc, Some, List, [], ◌∷◌, ◌++◌, take, slice_get, sym, subst, ap, ◌∙◌, arith}
-use Rattle.std.proofs.Common.{inl, inr, refl, ◌<◌, zero, None, length, length-append, drop, map}
+use Rattle.std.proofs.Common.{inl, inr, refl, ◌<◌, zero, None, length, length-append}
 use Rattle.std.proofs.lemmas.Bool.{cases_order}
-use Rattle.std.proofs.Math.Seq.{take-append_seam}
-use Rattle.std.proofs.lemmas.List.{length-map, take-append-drop, take-take, take_more}
-use Rattle.std.proofs.lemmas.Option.{get_or_from_slice_get, slice_get_within}
-use Rattle.std.specs.List.{take-map}
-use Rattle.wire_msg.specs.declared.message.Envelope.{Envelope as CodeEnvelope}
-use Rattle.wire_msg.specs.Words.{plain_envelope}
+use Rattle.std.proofs.lemmas.List.{take-take}
 use Rattle.overlay_rules.specs.declared.entry.Entry.{Entry}
 use Rattle.overlay_rules.specs.Record.{Setting, World, Follows, LegalFrom, Legal, after, run, sent_in, world_at_start, world_after}
-use Rattle.overlay_rules.proofs.Histories.{LegalFrom-push, LegalFrom-take, sent_in-append, sent_in-push}
+use Rattle.overlay_rules.proofs.Histories.{LegalFrom-push, LegalFrom-take}
+use Rattle.overlay_rules.proofs.Prefixes.{take-got, sent_in-got}
 use Rattle.trace_check.specs.declared.verdict.Part.{Part}
 use Rattle.trace_check.specs.declared.verdict.Part.TheVariants as part
 use Rattle.trace_check.specs.declared.verdict.Verdict.{Verdict}
@@ -21,12 +17,6 @@ use Rattle.trace_check.specs.Verdicts.{IsWrongIn, IsFirstWrong, IsVerdict}
 use Rattle.trace_check.proofs.Following.{wrong-follows_not}
 
 -- ---- one entry more
-
-take-got : (es : List Entry) (i : ℕ) (e : Entry) → slice_get es i ≡ Some e → take (i + 1) es ≡ take i es ++ e ∷ []
-take-got es i e at = take_more es i e (slice_get_within es i e at) ∙ ap (λ d. take i es ++ d ∷ []) (get_or_from_slice_get es i e e at)
-
-sent_in-got : (es : List Entry) (i : ℕ) (e : Entry) → slice_get es i ≡ Some e → sent_in (take (i + 1) es) ≡ sent_in (take i es) ++ e.messages
-sent_in-got es i e at = ap sent_in (take-got es i e at) ∙ sent_in-push (take i es) e
 
 pub Legal-more : (g : Setting) (es : List Entry) (i : ℕ) (e : Entry) → slice_get es i ≡ Some e → Legal g (take i es) →
     Follows g (world_after g es i) e → Legal g (take (i + 1) es)
@@ -55,25 +45,6 @@ first_wrong g es i e p n is at before wrong = record {
 
 pub FirstWrong-illegal : (g : Setting) (es : List Entry) (n : ℕ) (p : Part) → IsFirstWrong g es n p → ¬ Legal g es
 FirstWrong-illegal g es n p w = λ h. w.here (LegalFrom-take g (world_at_start g) es n h)
-
--- ---- what was sent before an entry
-
-sent_front : (es : List Entry) (i : ℕ) → sent_in es ≡ sent_in (take i es) ++ sent_in (drop i es)
-sent_front es i = sym (ap sent_in (take-append-drop i es)) ∙ sent_in-append (take i es) (drop i es)
-
-pub sent_before : (es : List Entry) (i n : ℕ) (messages : List CodeEnvelope) → map plain_envelope messages ≡ sent_in es →
-    n ≡ length (sent_in (take i es)) → map plain_envelope (take n messages) ≡ sent_in (take i es)
-sent_before es i n messages all is =
-    sym (take-map plain_envelope n messages) ∙ ap (take n) (all ∙ sent_front es i) ∙
-    ap (λ k. take k (sent_in (take i es) ++ sent_in (drop i es))) is ∙ take-append_seam (sent_in (take i es)) (sent_in (drop i es))
-
-pub sent_within : (es : List Entry) (i : ℕ) (messages : List CodeEnvelope) → map plain_envelope messages ≡ sent_in es →
-    length (sent_in (take i es)) ≤ length messages
-sent_within es i messages all =
-    let front = ap length (sent_front es i) in
-    let long = length-append (sent_in (take i es)) (sent_in (drop i es)) in
-    let same = length-map messages plain_envelope in
-    let whole = ap length all in omega arith
 
 -- ---- how far the check has come
 

@@ -2,7 +2,8 @@ use Rattle.std.proofs.Common.{◌+◌, ◌++◌, length, take, drop, refl, sym, 
 use Rattle.overlay_rules.specs.Record.{sent_in, visit}
 use Rattle.overlay_rules.specs.Seen.{entry_seen}
 use Rattle.delivery_report.specs.Deliveries.{entry_lines, lines_after}
-use Rattle.delivery_report.proofs.Steps.{written-more, sent_in-got, lines_after-got, sent_before, sent_within, front_size, sent_more}
+use Rattle.overlay_rules.proofs.Prefixes.{sent_in-got, sent_before, sent_within, front_size, sent_more}
+use Rattle.delivery_report.proofs.Steps.{written-more, lines_after-got}
 use Rattle.delivery_report.proofs.deliveries.delivery_lines.Goals as goal
 
 pub slice_bounds-entry_lines-end : goal.slice_bounds-entry_lines-end

@@ -5,7 +5,8 @@ use Rattle.overlay_rules.specs.Record.{Setting, sent_in, world_after}
 use Rattle.step_facts.specs.Setting.{setting}
 use Rattle.trace_check.specs.Replays.{IsReplayedOrWrong}
 use Rattle.trace_check.specs.Verdicts.{IsWrongIn}
-use Rattle.trace_check.proofs.Reaching.{FirstWrong-illegal, IsReached-more, entry-at, first_wrong, sent-more, sent_before, sent_within}
+use Rattle.overlay_rules.proofs.Prefixes.{sent_before, sent_within}
+use Rattle.trace_check.proofs.Reaching.{FirstWrong-illegal, IsReached-more, entry-at, first_wrong, sent-more}
 use Rattle.trace_check.proofs.checking.check_entries.Goals as goal
 
 pub slice_bounds-follow-end : goal.slice_bounds-follow-end

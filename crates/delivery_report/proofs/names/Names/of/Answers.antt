@@ -1,6 +1,6 @@
 use Rattle.std.proofs.Common.{◌∙◌, sym, ap}
 use Rattle.scenario_reader.specs.declared.node.NodeLine.{NodeLine}
-use Rattle.delivery_report.proofs.Steps.{take-next}
+use Rattle.overlay_rules.proofs.Prefixes.{take-next}
 use Rattle.delivery_report.proofs.Found.{FindsAll-kept, FindsAll-added, FindsAll-same}
 use Rattle.delivery_report.proofs.names.Names.of.Goals as goal
 use Rattle.delivery_report.proofs.names.Names.of.Goals.{then-not-contains_key+in_ok-insert, else-not-contains_key}
