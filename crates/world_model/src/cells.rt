@@ -1,7 +1,11 @@
 //! Nodes, each to be found by its identifier. All that this crate asks of node_core is asked here.
 
 ghost use Rattle.std.specs.Prelude.{◌≡◌, ◌==◌, ◌<◌, ℕ, true, IfOk, IfSome, IfNone, Contains, count_by, length, slice_index, vec_len};
+ghost use Rattle.std.specs.Prelude.{option_copied};
+ghost use Rattle.ring_math.specs.Files.{slot_of};
 ghost use Rattle.coverage.specs.declared.Hop.{Hop as PlainHop};
+ghost use Rattle.coverage.specs.declared.Reach.{Reach as PlainReach};
+ghost use Rattle.file_store.specs.Answers.{bytes_in};
 ghost use Rattle.overlay_rules.specs.State.{State, is_ready, start};
 ghost use Rattle.overlay_rules.specs.Step.{step};
 ghost use Rattle.overlay_rules.specs.Record.{IsSetting, all_differ, world_at_start, state_at};
@@ -9,13 +13,13 @@ ghost use Rattle.node_parts.specs.Change.{changed};
 ghost use Rattle.node_parts.specs.Plans.{Plans};
 ghost use Rattle.node_parts.specs.Seen.{Stands};
 ghost use Rattle.node_parts.specs.Sound.{IsSound};
-ghost use Rattle.node_parts.specs.Views.{hop_of};
+ghost use Rattle.node_parts.specs.Views.{hop_of, reach_of};
 ghost use Rattle.node_core.specs.Inputs.{plain_input};
 ghost use Rattle.world_model.specs.Cells.{AllStand, AreDifferent, Finds, FitsAt, ids_of, id_at};
 
-use coverage::Hop;
+use coverage::{Hop, Reach};
 use node_core::{Change, Input, Node, Prepared};
-use ring_math::{Id, OutOfMemory};
+use ring_math::{FileId, Id, OutOfMemory};
 use std::alloc::Global;
 use std::collections::BTreeMap;
 use std::marker::Model;
@@ -92,6 +96,24 @@ impl Cells {
     {
         let node = &self.nodes[place];
         node.next_hop(key)
+    }
+
+    /// What coverage depends on at a node, None exactly where it is not ready.
+    pub fn reach(&self, place: usize) -> Option<Reach>
+        requires { place < length (ids_of self.now) }
+        ensures { (states : ℕ → State) → AllStand self.now states → result ≡ reach_of (states (id_at self.now place)) }
+    {
+        let node = &self.nodes[place];
+        node.reach()
+    }
+
+    /// The bytes of a file at a node, None exactly where it holds none.
+    pub fn holds(&self, place: usize, file: &FileId) -> Option<&[u8]>
+        requires { place < length (ids_of self.now) }
+        ensures { (states : ℕ → State) → AllStand self.now states → option_copied result ≡ bytes_in (slot_of (states (id_at self.now place)).files file.now) }
+    {
+        let node = &self.nodes[place];
+        node.holds(file)
     }
 
     /// All of a step that can be refused. The nodes stand for what they stood for.

@@ -11,6 +11,7 @@ ghost use Rattle.world_model.specs.Recorded.{setting_of, with_event, world_of};
 ghost use Rattle.world_model.specs.Numbers.{IsNewest};
 ghost use Rattle.world_model.specs.Stamps.{AreStamped};
 ghost use Rattle.world_model.specs.Index.{IsBelow, delivered_by};
+ghost use Rattle.world_model.specs.Cells.{AllStand, ids_of};
 ghost use Rattle.world_model.specs.Worlds.{ComesTo};
 
 use crate::cells::Cells;
@@ -146,6 +147,14 @@ impl World {
             entries: self.entries,
             skipped,
         }
+    }
+
+    /// The nodes, as they are after all that happened.
+    pub fn cells(&self) -> &Cells
+        ensures ids { ids_of result.now ≡ self.now.nodes }
+        ensures stand { AllStand result.now (world_of self.now).states }
+    {
+        &self.cells
     }
 
     /// Where a node sends what is for a key, None exactly where it is not ready. It takes no memory.
