@@ -19,31 +19,32 @@ pub fn found_bytes(answer: &Answer) -> Option<&Bytes>
     }
 }
 
-/// How a command was closed.
-pub(crate) fn answer(text: &mut Text, names: &Names, answer: &Answer) -> Result<(), OutOfMemory>
+/// Writes how a command was closed. The only error is that memory was refused.
+pub fn put_answer(text: &mut Text, names: &Names, answer: &Answer) -> Result<(), OutOfMemory>
     ensures { OnOk result (text.new ≡ text.old ++ answer_text names.now answer.now) }
 {
     match answer {
-        Answer::Reply(reply) => reply_of(text, names, reply),
+        Answer::Reply(reply) => put_reply(text, names, reply),
         Answer::Joined { left, right } => {
             with_other(text, names, b"joined between ", *left, b" and ", *right)
         }
         Answer::Denied { node, why } => {
             names.write_after(text, b"denied by ", *node)?;
             text.put(b" ")?;
-            why_of(text, names, why)
+            put_why(text, names, why)
         }
         Answer::Stopped { node, own } => {
             names.write_after(text, b"denied by ", *node)?;
             text.put(b" ")?;
-            own_of(text, own)
+            put_own(text, own)
         }
         Answer::GaveUp => text.put(b"gave up"),
         Answer::NothingToGiveUp => text.put(b"nothing to give up"),
     }
 }
 
-fn reply_of(text: &mut Text, names: &Names, reply: &Reply) -> Result<(), OutOfMemory>
+/// Writes the answer to a request. The only error is that memory was refused.
+pub fn put_reply(text: &mut Text, names: &Names, reply: &Reply) -> Result<(), OutOfMemory>
     ensures { OnOk result (text.new ≡ text.old ++ reply_text names.now reply.now) }
 {
     match reply {
@@ -79,7 +80,8 @@ fn reply_of(text: &mut Text, names: &Names, reply: &Reply) -> Result<(), OutOfMe
     }
 }
 
-fn why_of(text: &mut Text, names: &Names, why: &Why) -> Result<(), OutOfMemory>
+/// Writes why a joiner was refused. The only error is that memory was refused.
+pub fn put_why(text: &mut Text, names: &Names, why: &Why) -> Result<(), OutOfMemory>
     ensures { OnOk result (text.new ≡ text.old ++ why_text names.now why.now) }
 {
     match why {
@@ -96,7 +98,7 @@ fn why_of(text: &mut Text, names: &Names, why: &Why) -> Result<(), OutOfMemory>
     }
 }
 
-fn own_of(text: &mut Text, own: &Own) -> Result<(), OutOfMemory>
+fn put_own(text: &mut Text, own: &Own) -> Result<(), OutOfMemory>
     ensures { OnOk result (text.new ≡ text.old ++ own_text own.now) }
 {
     text.put(match own {

@@ -5,7 +5,7 @@ ghost use Rattle.std.specs.Option.{option_or, option_copied};
 ghost use Rattle.delivery_report.specs.Report.{closing_of, closings_of, command_line, command_lines};
 ghost use Rattle.delivery_report.specs.Texts.{commands_of};
 
-use crate::answers::answer;
+use crate::answers::put_answer;
 use crate::names::Names;
 use overlay_rules::Entries;
 use ring_math::OutOfMemory;
@@ -56,7 +56,7 @@ pub fn command_line(
     text.number(number)?;
     text.put(b" ")?;
     match closing {
-        Some(closing) => answer(text, names, closing)?,
+        Some(closing) => put_answer(text, names, closing)?,
         None => text.put(b"unanswered")?,
     }
     text.put(b"\n")

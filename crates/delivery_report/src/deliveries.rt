@@ -75,8 +75,13 @@ fn note_lines(text: &mut Text, names: &Names, node: Id, notes: &[Note]) -> Resul
     Ok(())
 }
 
-/// The line of a note of this node, where the note is a delivery.
-fn delivery_line(text: &mut Text, names: &Names, node: Id, note: &Note) -> Result<(), OutOfMemory>
+/// Writes the line of a note of this node, if the note is a delivery; else nothing. The only error is that memory was refused.
+pub fn delivery_line(
+    text: &mut Text,
+    names: &Names,
+    node: Id,
+    note: &Note,
+) -> Result<(), OutOfMemory>
     ensures { OnOk result (text.new ≡ text.old ++ delivery_line names.now node note.now) }
 {
     let Note::Delivered {

@@ -15,11 +15,11 @@ mod deliveries;
 mod names;
 mod tally;
 
-pub use crate::answers::{found_bytes, put_bytes};
+pub use crate::answers::{found_bytes, put_answer, put_bytes, put_reply, put_why};
 use crate::closings::command_lines;
 pub use crate::closings::{closings_of, command_count, command_line};
 pub use crate::counts::put_summary;
-pub use crate::deliveries::{delivery_lines, node_of};
+pub use crate::deliveries::{delivery_line, delivery_lines, node_of};
 use crate::names::Names;
 pub use crate::names::Names as NodeNames;
 pub use crate::tally::tally_of;

@@ -51,8 +51,8 @@ impl<'a> Names<'a> {
         self.by_id.get(&id.0).copied()
     }
 
-    /// Writes a node's name; of an identifier that is no node's, the 32 digits.
-    pub(crate) fn write(&self, text: &mut Text, id: Id) -> Result<(), OutOfMemory>
+    /// Writes a node's name; of an identifier that is no node's, the 32 digits. The only error is that memory was refused.
+    pub fn write(&self, text: &mut Text, id: Id) -> Result<(), OutOfMemory>
         ensures { OnOk result (text.new ≡ text.old ++ name_of self.now id) }
     {
         match self.node(id) {
@@ -61,21 +61,16 @@ impl<'a> Names<'a> {
         }
     }
 
-    /// Writes a word and a node's name.
-    pub(crate) fn write_after(
-        &self,
-        text: &mut Text,
-        word: &[u8],
-        id: Id,
-    ) -> Result<(), OutOfMemory>
+    /// Writes a word and a node's name. The only error is that memory was refused.
+    pub fn write_after(&self, text: &mut Text, word: &[u8], id: Id) -> Result<(), OutOfMemory>
         ensures { OnOk result (text.new ≡ text.old ++ (word.now ++ name_of self.now id)) }
     {
         text.put(word)?;
         self.write(text, id)
     }
 
-    /// Writes names, a space before each.
-    pub(crate) fn write_all(&self, text: &mut Text, ids: &[Id]) -> Result<(), OutOfMemory>
+    /// Writes names, a space before each. The only error is that memory was refused.
+    pub fn write_all(&self, text: &mut Text, ids: &[Id]) -> Result<(), OutOfMemory>
         ensures { OnOk result (text.new ≡ text.old ++ names_of self.now ids.now) }
     {
         for id in ids {

@@ -1,4 +1,4 @@
-use Rattle.delivery_report.proofs.answers.reply_of.Goals as goal
+use Rattle.delivery_report.proofs.answers.put_reply.Goals as goal
 
 pub returns-in-Delivered : goal.returns-in-Delivered
 returns-in-Delivered c = rw c.in-Delivered.is c.with_number.ensures
