@@ -107,8 +107,13 @@ pub(crate) fn read_file(
     Ok(())
 }
 
-/// The bytes of a file, which are not more than may be.
-fn content_of(alloc: Global, line: u32, word: &Word<'_>, content: &[u8]) -> Result<Bytes, LineFault>
+/// The bytes of a file. `Limit` comes where they are more than a file may have, and `OutOfMemory` where memory was refused.
+pub fn content_of(
+    alloc: Global,
+    line: u32,
+    word: &Word<'_>,
+    content: &[u8],
+) -> Result<Bytes, LineFault>
     ensures ok { IfOk result (λ bytes. (nat_lt MOST_BYTES (length content.now) ≡ false) × (bytes ≡ content.now)) }
     ensures err { IfErr result (λ e. (e ≡ fault.OutOfMemory) ⊎ ((nat_lt MOST_BYTES (length content.now) ≡ true) × (e ≡ fault.Limit line word.now.place))) }
 {

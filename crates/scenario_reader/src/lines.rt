@@ -6,7 +6,7 @@ ghost use Rattle.scenario_reader.specs.Lines.{lines_of};
 use memchr::memchr;
 
 /// The first line, without its end, and what stands behind it.
-pub(crate) fn split_line(text: &[u8]) -> (&[u8], &[u8])
+pub fn split_line(text: &[u8]) -> (&[u8], &[u8])
     requires { 0 < length text.now }
     ensures lines { lines_of text.now ≡ result.0.now ∷ lines_of result.1.now }
     ensures shorter { length result.1.now < length text.now }

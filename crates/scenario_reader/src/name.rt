@@ -42,6 +42,16 @@ impl Name {
         })
     }
 
+    /// The same name.
+    pub fn copy(&self) -> Name
+        ensures { result ≡ self.now }
+    {
+        Name {
+            letters: self.letters,
+            len: self.len,
+        }
+    }
+
     pub fn as_slice(&self) -> &[u8]
         ensures value { result.now ≡ self.now }
         ensures spelled { IsTrue (is_name self.now) }

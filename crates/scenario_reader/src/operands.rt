@@ -21,8 +21,8 @@ use hex::FromHexError;
 use ring_math::{Id, id_from_hex, id_of_name, key_of};
 use std::alloc::Global;
 
-/// The number that a word spells.
-pub(crate) fn number_at(line: u32, word: &Word<'_>) -> Result<u64, LineFault>
+/// The number that a word spells in decimal. `Number` comes where it spells none, or one above 18,446,744,073,709,551,615.
+pub fn number_at(line: u32, word: &Word<'_>) -> Result<u64, LineFault>
     ensures { MatchResult result (λ n. number_of word.now.text.now ≡ Some n) (λ e. (number_of word.now.text.now ≡ None) × (e ≡ fault.Number line word.now.place)) }
 {
     match number(word.text) {
@@ -34,8 +34,9 @@ pub(crate) fn number_at(line: u32, word: &Word<'_>) -> Result<u64, LineFault>
     }
 }
 
-/// The bytes that a word spells in hexadecimal digits, none where it is `-`.
-pub(crate) fn bytes_at(alloc: Global, line: u32, word: &Word<'_>) -> Result<Vec<u8>, LineFault>
+/// The bytes that a word spells in hexadecimal digits, none where it is `-`. `Hex` comes where it spells none, and
+/// `OutOfMemory` where memory was refused.
+pub fn bytes_at(alloc: Global, line: u32, word: &Word<'_>) -> Result<Vec<u8>, LineFault>
     ensures ok { IfOk result (λ bytes. bytes_of word.now.text.now ≡ Some bytes.items) }
     ensures err { IfErr result (λ e. (e ≡ fault.OutOfMemory) ⊎ ((bytes_of word.now.text.now ≡ None) × (e ≡ fault.Hex line word.now.place))) }
 {
@@ -52,8 +53,8 @@ pub(crate) fn bytes_at(alloc: Global, line: u32, word: &Word<'_>) -> Result<Vec<
     }
 }
 
-/// The eight bytes that a word spells in hexadecimal digits.
-pub(crate) fn salt_at(line: u32, word: &Word<'_>) -> Result<[u8; 8], LineFault>
+/// The eight bytes that a word spells in hexadecimal digits. `Hex` comes where it spells no eight.
+pub fn salt_at(line: u32, word: &Word<'_>) -> Result<[u8; 8], LineFault>
     ensures { MatchResult result (λ salt. salt_of word.now.text.now ≡ Some salt) (λ e. (salt_of word.now.text.now ≡ None) × (e ≡ fault.Hex line word.now.place)) }
 {
     let mut salt = [0; 8];
@@ -66,8 +67,8 @@ pub(crate) fn salt_at(line: u32, word: &Word<'_>) -> Result<[u8; 8], LineFault>
     }
 }
 
-/// Refuses a key that is neither 32 hexadecimal digits nor begins with `@`.
-pub(crate) fn check_key(line: u32, word: &Word<'_>) -> Result<(), LineFault>
+/// Refuses a key that is neither 32 hexadecimal digits nor begins with `@`, by `Hex`.
+pub fn check_key(line: u32, word: &Word<'_>) -> Result<(), LineFault>
     ensures { MatchResult result (λ _. is_key word.now.text.now ≡ true) (λ e. (is_key word.now.text.now ≡ false) × (e ≡ fault.Hex line word.now.place)) }
 {
     if !is_key(word.text) {
@@ -129,8 +130,8 @@ pub(crate) fn identifier_at(
     key_at(draft, line, word)
 }
 
-/// Refuses a name that is not spelled as one.
-pub(crate) fn check_name(line: u32, word: &Word<'_>) -> Result<(), LineFault>
+/// Refuses a name that is not spelled as one, by `Name`.
+pub fn check_name(line: u32, word: &Word<'_>) -> Result<(), LineFault>
     ensures { MatchResult result (λ _. is_name word.now.text.now ≡ true) (λ e. (is_name word.now.text.now ≡ false) × (e ≡ fault.Name line word.now.place)) }
 {
     if !is_name(word.text) {
@@ -175,13 +176,8 @@ pub(crate) fn file_at<'a>(
     }
 }
 
-/// Refuses bytes that are more than a limit.
-pub(crate) fn check_length(
-    line: u32,
-    word: &Word<'_>,
-    bytes: &[u8],
-    most: usize,
-) -> Result<(), LineFault>
+/// Refuses bytes that are more than a limit, by `Limit`.
+pub fn check_length(line: u32, word: &Word<'_>, bytes: &[u8], most: usize) -> Result<(), LineFault>
     ensures { MatchResult result (λ _. nat_lt most (length bytes.now) ≡ false) (λ e. (nat_lt most (length bytes.now) ≡ true) × (e ≡ fault.Limit line word.now.place)) }
 {
     if bytes.len() > most {

@@ -77,8 +77,8 @@ fn read_line(
     read_words(draft, alloc, line, &words)
 }
 
-/// The place of the first byte outside 20 to 7e.
-fn first_outside_text(text: &[u8]) -> Option<usize>
+/// The place of the first byte outside 20 to 7e, which no line may have. None where there is none.
+pub fn first_outside_text(text: &[u8]) -> Option<usize>
     ensures value { result ≡ position (λ byte. not (is_text_byte byte)) text.now }
     ensures within { IfSome result (λ place. place < length text.now) }
 {
@@ -116,7 +116,8 @@ fn read_words(
     }
 }
 
-fn is_comment(word: &[u8]) -> bool
+/// Whether a line that begins with this word is a comment.
+pub fn is_comment(word: &[u8]) -> bool
     ensures { result ≡ is_comment word.now }
 {
     match word {

@@ -8,7 +8,7 @@ ghost use Rattle.scenario_reader.specs.Spelling.{is_name_byte, is_name, is_decim
 use crate::limits::MOST_LETTERS;
 
 /// Whether these bytes are 1 to [`MOST_LETTERS`] letters, digits or underscores.
-pub(crate) fn is_name(text: &[u8]) -> bool
+pub fn is_name(text: &[u8]) -> bool
     ensures { result ≡ is_name text.now }
 {
     !text.is_empty() && text.len() <= MOST_LETTERS && are_name_bytes(text)
@@ -68,14 +68,14 @@ fn are_digits(text: &[u8]) -> bool
 }
 
 /// Whether a word is `-`, which spells no bytes and, for a node, the identifier of its name.
-pub(crate) fn is_dash(text: &[u8]) -> bool
+pub fn is_dash(text: &[u8]) -> bool
     ensures { result ≡ is_dash text.now }
 {
     text == b"-".as_slice()
 }
 
-/// The name behind the `@` of `@FILE`.
-pub(crate) fn behind_at(text: &[u8]) -> Option<&[u8]>
+/// The name behind the `@` of `@FILE`; None where the word does not begin so.
+pub fn behind_at(text: &[u8]) -> Option<&[u8]>
     ensures { option_map (λ name. name.now) result ≡ behind_at text.now }
 {
     match text {

@@ -11,13 +11,13 @@ use std::alloc::Global;
 
 /// A word of a line, and the place of its first byte.
 #[derive(Clone, Copy)]
-pub(crate) struct Word<'a> {
-    pub(crate) place: u32,
-    pub(crate) text: &'a [u8],
+pub struct Word<'a> {
+    pub place: u32,
+    pub text: &'a [u8],
 }
 
-/// The words of a line, which spaces separate.
-pub(crate) fn words_in<'a>(alloc: Global, line: &'a [u8]) -> Result<Vec<Word<'a>>, OutOfMemory>
+/// The words of a line, which spaces separate. The only error is that memory was refused.
+pub fn words_in<'a>(alloc: Global, line: &'a [u8]) -> Result<Vec<Word<'a>>, OutOfMemory>
     requires { length line.now ≤ MOST_LINE_BYTES }
     ensures words { IfOk result (λ words. map plain_word words.items ≡ words_of line.now) }
     ensures few { IfOk result (λ words. vec_len words ≤ MOST_LINE_BYTES) }
