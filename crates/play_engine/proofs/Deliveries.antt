@@ -1,11 +1,9 @@
 -- A turn delivers only what was sent, and a scenario has few skips.
-use Rattle.std.proofs.Common.{◌≡◌, ◌<◌, ◌≤◌, ℕ, zero, suc, ◌+◌, ◌*◌, Bool, true, false, nat_lt, if◌then◌else◌, Option, Some, None, List, [], ◌∷◌, length, refl}
+use Rattle.std.proofs.Common.{◌≡◌, ◌<◌, ◌≤◌, ℕ, zero, suc, ◌+◌, ◌*◌, Bool, true, false, nat_lt, if◌then◌else◌, Option, Some, None, List, [], ◌∷◌, ◌++◌, length, replicate, refl}
 use Rattle.std.proofs.Common.{ap, arith}
 use Rattle.std.proofs.lemmas.Bool.{ltb-true}
 use Rattle.overlay_rules.specs.declared.entry.Event.TheVariants as event
-use Rattle.overlay_rules.specs.Record.{sent_in}
-use Rattle.overlay_rules.specs.Played.{Action as Act, Command, Settle, Deliver, Shuffle, Dup, Noise, Play, happened, in_world, delivered_once, drawn, shuffled}
-use Rattle.overlay_rules.specs.Played.{acted, acted_all, play_at_start}
+use Rattle.overlay_rules.specs.Played.{Action as Act, Command, Settle, Deliver, Shuffle, Dup, Noise, drawn}
 use Rattle.scenario_reader.specs.declared.action.Action.{Action}
 use Rattle.scenario_reader.specs.declared.action.What.{What}
 use Rattle.scenario_reader.specs.declared.action.What.TheVariants as what
@@ -15,9 +13,10 @@ use Rattle.scenario_reader.specs.declared.tally.Tally.{Tally}
 use Rattle.scenario_reader.specs.Plain.{PlainScenario}
 use Rattle.scenario_reader.specs.Rules.{AreActions, KeepsRules}
 use Rattle.scenario_reader.specs.Tallies.{start, tallied}
-use Rattle.schedule.specs.Schedule.{act_of, acts_of, setting_of, play_of}
-use Rattle.schedule.specs.Turns.{Happens, Skips, delivery, turned}
+use Rattle.schedule.specs.Schedule.{act_of, acts_of}
+use Rattle.schedule.specs.Turns.{Happens, Skips, Turned, delivery, turned, skipped_after}
 use Rattle.schedule.specs.Words.{words_from}
+use Rattle.play_engine.specs.Progress.{draws}
 
 -- ---- what a turn delivers
 
@@ -45,66 +44,62 @@ delivers_sent (Noise node ∷ acts) copies sent oldest m below h = cc
 
 -- ---- how many skips there can be
 
--- the deliveries of an action that may find no message
-abbrev chances : Act → ℕ
-chances (Command node number command) = 0
-chances (Settle n) = 0
-chances (Deliver m) = 1
-chances (Shuffle words) = length words
-chances (Dup n) = 0
-chances (Noise node) = 0
+copies_drawn : (k m copies : ℕ) (acts : List Act) → draws copies (replicate k (Deliver m) ++ acts) ≡ k + draws copies acts
+copies_drawn zero m copies acts = omega arith
+copies_drawn (suc k) m copies acts = let more = copies_drawn k m copies acts in omega arith
 
-abbrev chances_in : List Act → ℕ
-chances_in [] = 0
-chances_in (act ∷ acts) = chances act + chances_in acts
+-- a skip is one of the deliveries that were left
+abbrev IsDrawn : ℕ → List Act → ℕ → Turned → Type 0
+IsDrawn copies acts skipped t = skipped_after t.step skipped + draws t.copies t.left ≤ skipped + draws copies acts
 
-once_skips : (m : ℕ) (p : Play) → (delivered_once m p).skipped ≤ p.skipped + 1
-once_skips m p = by (nat_lt m (length (sent_in p.world.past)))
+once_drawn : (n sent skipped : ℕ) → skipped_after (delivery n sent) skipped ≤ skipped + 1
+once_drawn n sent skipped = by (nat_lt n sent)
   where
-    by : (b : Bool) → (if b then in_world p (happened p.world (event.Deliver m)) else record p { skipped = p.skipped + 1 }).skipped ≤ p.skipped + 1
+    by : (b : Bool) → skipped_after (if b then Happens (event.Deliver n) else Skips) skipped ≤ skipped + 1
     by true = omega arith
     by false = omega arith
 
-words_skip : (words : List ℕ) (p : Play) → (shuffled words p).skipped ≤ p.skipped + length words
-words_skip [] p = omega arith
-words_skip (word ∷ words) p =
-    let next : Play = delivered_once (drawn word (length (sent_in p.world.past))) p in
-    let one = once_skips (drawn word (length (sent_in p.world.past))) p in
-    let rest = words_skip words next in omega arith
+-- a settle has the deliveries of the rest, and its own
+behind_settle : (n copies skipped : ℕ) (acts : List Act) (t : Turned) → IsDrawn copies acts skipped t → IsDrawn copies (Settle n ∷ acts) skipped t
+behind_settle n copies skipped acts t h = let product : 0 ≤ n * copies = omega arith in omega arith
 
-act_skips : (act : Act) (p : Play) → (acted act p).skipped ≤ p.skipped + chances act
-act_skips (Command node number command) p = omega arith
-act_skips (Settle n) p = omega arith
-act_skips (Deliver m) p = once_skips m p
-act_skips (Shuffle words) p = words_skip words p
-act_skips (Dup n) p = omega arith
-act_skips (Noise node) p = omega arith
-
-all_skip : (acts : List Act) (p : Play) → (acted_all acts p).skipped ≤ p.skipped + chances_in acts
-all_skip [] p = omega arith
-all_skip (act ∷ acts) p = let one = act_skips act p in let rest = all_skip acts (acted act p) in omega arith
+pub turns_drawn : (acts : List Act) (copies sent : ℕ) (oldest : Option ℕ) (skipped : ℕ) → IsDrawn copies acts skipped (turned acts copies sent oldest)
+turns_drawn [] copies sent oldest skipped = omega arith
+turns_drawn (Command node number command ∷ acts) copies sent oldest skipped = omega arith
+turns_drawn (Settle zero ∷ acts) copies sent oldest skipped =
+    behind_settle 0 copies skipped acts (turned acts copies sent oldest) (turns_drawn acts copies sent oldest skipped)
+turns_drawn (Settle (suc n) ∷ acts) copies sent None skipped =
+    behind_settle (suc n) copies skipped acts (turned acts copies sent None) (turns_drawn acts copies sent None skipped)
+turns_drawn (Settle (suc n) ∷ acts) zero sent (Some m) skipped =
+    behind_settle (suc n) 0 skipped acts (turned acts 0 sent (Some m)) (turns_drawn acts 0 sent (Some m) skipped)
+turns_drawn (Settle (suc n) ∷ acts) (suc more) sent (Some m) skipped =
+    let rest = copies_drawn more m (suc more) (Settle n ∷ acts) in
+    let one : suc n * suc more ≡ n * suc more + suc more = omega arith in omega arith
+turns_drawn (Deliver m ∷ acts) copies sent oldest skipped = let once = once_drawn m sent skipped in omega arith
+turns_drawn (Shuffle [] ∷ acts) copies sent oldest skipped = let rest = turns_drawn acts copies sent oldest skipped in omega arith
+turns_drawn (Shuffle (word ∷ words) ∷ acts) copies sent oldest skipped = let once = once_drawn (drawn word sent) sent skipped in omega arith
+turns_drawn (Dup n ∷ acts) copies sent oldest skipped = turns_drawn acts n sent oldest skipped
+turns_drawn (Noise node ∷ acts) copies sent oldest skipped = omega arith
 
 word_count : (seed t count : ℕ) → length (words_from seed t count) ≡ count
 unfolding words_from
 word_count seed t zero = refl
 word_count seed t (suc count) = ap suc (word_count seed (suc t) count)
 
-chances_counted : (tally : Tally) (w : What) → tally.deliveries + chances (act_of w) ≤ (tallied tally w).deliveries
-chances_counted tally (what.Command number node command) = omega arith
-chances_counted tally (what.Settle n) = let product : 0 ≤ n * tally.copies = omega arith in omega arith
-chances_counted tally (what.Deliver m) = omega arith
-chances_counted tally (what.Shuffle seed count) = let words = word_count seed 0 count in omega arith
-chances_counted tally (what.Dup n) = omega arith
-chances_counted tally (what.Noise node bytes) = omega arith
+draws_few : (nodes : List NodeLine) (files : List FileLine) (tally : Tally) (actions : List Action) → AreActions nodes files tally actions →
+    tally.deliveries ≤ 1000000 → tally.deliveries + draws tally.copies (acts_of actions) ≤ 1000000
+draws_few nodes files tally [] rules few = omega arith
+draws_few nodes files tally (action ∷ actions) rules few = by action.what (draws_few nodes files (tallied tally action.what) actions rules.1 rules.0.deliveries)
+  where
+    by : (w : What) → (tallied tally w).deliveries + draws (tallied tally w).copies (acts_of actions) ≤ 1000000 →
+        tally.deliveries + draws tally.copies (act_of w ∷ acts_of actions) ≤ 1000000
+    by (what.Command number node command) rest = rest
+    by (what.Settle n) rest = omega arith
+    by (what.Deliver m) rest = omega arith
+    by (what.Shuffle seed count) rest = let words = word_count seed 0 count in omega arith
+    by (what.Dup n) rest = rest
+    by (what.Noise node bytes) rest = rest
 
-chances_few : (nodes : List NodeLine) (files : List FileLine) (tally : Tally) (actions : List Action) → AreActions nodes files tally actions →
-    tally.deliveries ≤ 1000000 → tally.deliveries + chances_in (acts_of actions) ≤ 1000000
-chances_few nodes files tally [] rules few = omega arith
-chances_few nodes files tally (action ∷ actions) rules few =
-    let one = chances_counted tally action.what in
-    let rest = chances_few nodes files (tallied tally action.what) actions rules.1 rules.0.deliveries in omega arith
-
-pub skips_few : (s : PlainScenario) → KeepsRules s → (play_of s).skipped ≤ 1000000
-skips_few s rules =
-    let all = all_skip (acts_of s.actions) (play_at_start (setting_of s)) in
-    let few = chances_few s.nodes s.files start s.actions rules.actions (omega arith) in omega arith
+-- of a scenario that nothing was played of
+pub skips_few : (s : PlainScenario) → KeepsRules s → 0 + draws 1 (acts_of s.actions) ≤ 1000000
+skips_few s rules = draws_few s.nodes s.files start s.actions rules.actions (omega arith)

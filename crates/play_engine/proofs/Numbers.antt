@@ -25,7 +25,7 @@ use Rattle.world_model.specs.Recorded.{Recorded, setting_of}
 use Rattle.world_model.proofs.Newest.{newest_more, newest_push}
 use Rattle.play_engine.specs.Advance.{recorded_after}
 use Rattle.play_engine.specs.Coming.{CanAct}
-use Rattle.play_engine.specs.Progress.{Progress, Plays, commands_before}
+use Rattle.play_engine.specs.Progress.{Progress, PlaysOn, commands_before}
 
 -- ---- the action at a place
 
@@ -86,7 +86,7 @@ from_rises tally [] = omega arith
 from_rises tally (action ∷ actions) =
     let one = tallied_rises tally action.what in let rest = from_rises (tallied tally action.what) actions in omega arith
 
-commands_rise : (tally : Tally) (actions : List Action) (place later : ℕ) → place ≤ later →
+pub commands_rise : (tally : Tally) (actions : List Action) (place later : ℕ) → place ≤ later →
     (tally_from tally (take place actions)).commands ≤ (tally_from tally (take later actions)).commands
 commands_rise tally actions zero later le = from_rises tally (take later actions)
 commands_rise tally actions (suc place) zero le = absurd (omega arith)
@@ -109,7 +109,7 @@ numbered_next nodes files tally (what.Dup n) v h is = cc
 numbered_next nodes files tally (what.Noise node bytes) v h is =
     let same : event.Noise node ≡ v = cc in subst (IsNumberedBelow (tally.commands + 1)) same tt
 
-pub newest_after : (s : PlainScenario) (a : Progress) (spot : Spot) (t : Turn) (step : Step) → KeepsRules s → Plays s a →
+pub newest_after : (s : PlainScenario) (a : Progress) (spot : Spot) (t : Turn) (step : Step) → KeepsRules s → PlaysOn s a →
     IsAtPlace a.spot spot t → step_of s.actions t ≡ Some step →
     IsNewest (commands_before s.actions spot.place + 1) (recorded_after step a.recorded).entries
 newest_after s a spot (turn.Action place) step rules h at is =
@@ -169,7 +169,7 @@ can_act nodes files tally (what.Shuffle seed count) v r is h newest named = cc
 can_act nodes files tally (what.Dup n) v r is h newest named = cc
 can_act nodes files tally (what.Noise node bytes) v r is h newest named = subst (λ (ns : List ℕ). Contains ns node) (sym is) h.0
 
-pub can_act_at : (s : PlainScenario) (a : Progress) (place : ℕ) (step : Step) (d : Action) → KeepsRules s → Plays s a → a.spot.place ≤ place →
+pub can_act_at : (s : PlainScenario) (a : Progress) (place : ℕ) (step : Step) (d : Action) → KeepsRules s → PlaysOn s a → a.spot.place ≤ place →
     step_of s.actions (turn.Action place) ≡ Some step → CanAct a.recorded (slice_index_or s.actions place d).what
 can_act_at s a place step d rules h le is =
     let there = event_at s.actions place step is in

@@ -9,7 +9,8 @@ use Rattle.scenario_reader.specs.Rules.{KeepsRules}
 use Rattle.schedule.specs.Schedule.{setting_of}
 use Rattle.schedule.proofs.Playing.{played_at_start}
 use Rattle.world_model.specs.Recorded.{setting_of as setting_in}
-use Rattle.play_engine.specs.Progress.{Progress, Plays, progress_at_start}
+use Rattle.play_engine.specs.Progress.{Progress, PlaysOn, Plays, progress_at_start}
+use Rattle.play_engine.proofs.Deliveries.{skips_few}
 
 not_in : (xs : List ℕ) (x : ℕ) → ((j d : ℕ) → j < length xs → x ≢ slice_index_or xs j d) → is_in xs x ≡ false
 not_in xs x h = elim (cases_Bool (is_in xs x)) [ inl e ↦ (let c = Contains-is_in xs x e in absurd (h c.0 x c.1 (sym c.2))) | inr e ↦ e ]
@@ -30,11 +31,14 @@ is_setting_of s nodes founder listed founded rules =
     subst (λ ns. IsSetting (record { nodes = ns; founder = founder })) (sym listed)
     (subst (λ x. IsSetting (record { nodes = ids s.nodes; founder = x })) (sym founded) (is_setting s rules))
 
-pub plays_at_start : (s : PlainScenario) → Plays s (progress_at_start s)
-plays_at_start s = record { nodes = refl; founder = refl; played = played_at_start s; newest = λ k d inside. absurd (omega arith) }
+pub plays_at_start : (s : PlainScenario) → KeepsRules s → Plays s (progress_at_start s)
+plays_at_start s rules = record {
+  on = record { nodes = refl; founder = refl; newest = λ k d inside. absurd (omega arith); skips = skips_few s rules };
+  played = played_at_start s;
+}
 
 -- the setting of a player's world is the scenario's
-pub same_setting : (s : PlainScenario) (a : Progress) → Plays s a → setting_in a.recorded ≡ setting_of s
+pub same_setting : (s : PlainScenario) (a : Progress) → PlaysOn s a → setting_in a.recorded ≡ setting_of s
 same_setting s a h =
     let founded = ap (λ founder. record { nodes = a.recorded.nodes; founder = founder }) h.founder in
     subst (λ nodes. setting_in a.recorded ≡ record { nodes = nodes; founder = s.founder }) h.nodes founded

@@ -21,7 +21,7 @@ use Rattle.schedule.proofs.Ending.{work, turns_end}
 use Rattle.world_model.specs.Recorded.{setting_of as setting_in}
 use Rattle.play_engine.specs.Advance.{next_turn, TakesTurn, IsNext, progress_after, moved_to}
 use Rattle.play_engine.specs.Coming.{is_some}
-use Rattle.play_engine.specs.Progress.{Progress, Plays, IsWhole, play_in, left_in}
+use Rattle.play_engine.specs.Progress.{Progress, PlaysOn, Plays, IsWhole, play_in, left_in}
 use Rattle.play_engine.proofs.Going.{past_of, played_after, plays_after, takes_turn, begins, advanced}
 use Rattle.play_engine.proofs.Starting.{same_setting}
 use Rattle.play_engine.proofs.Numbers.{event_at}
@@ -156,7 +156,7 @@ less_left s a b h =
 pub whole_record : (s : PlainScenario) (es fs : List Entry) (n m : ℕ) → IsWhole s es n → fs ≡ es → m ≡ n → IsWhole s fs m
 whole_record s es fs n m h entries skips = record { entries = entries ∙ h.entries; skips = skips ∙ h.skips }
 
-pub legal_record : (s : PlainScenario) (a : Progress) (es : List Entry) → Plays s a → IsRecord (setting_in a.recorded) a.recorded.entries →
+pub legal_record : (s : PlainScenario) (a : Progress) (es : List Entry) → PlaysOn s a → IsRecord (setting_in a.recorded) a.recorded.entries →
     es ≡ a.recorded.entries →
     IsRecord (setting_of s) es
 legal_record s a es h legal same =

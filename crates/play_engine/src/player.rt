@@ -9,7 +9,7 @@ ghost use Rattle.schedule.specs.Playing.{IsBeginning};
 ghost use Rattle.schedule.specs.Schedule.{play_of};
 ghost use Rattle.schedule.specs.Turns.{Step};
 ghost use Rattle.world_model.specs.Recorded.{setting_of, with_event};
-ghost use Rattle.play_engine.specs.Advance.{IsNext, TakesTurn, progress_after};
+ghost use Rattle.play_engine.specs.Advance.{IsNext, TakesTurn, moved_to, progress_after};
 ghost use Rattle.play_engine.specs.Coming.{CanAct, CanCome, is_some};
 ghost use Rattle.play_engine.specs.Progress.{IsWhole, Plays, play_in, progress_at_start};
 
@@ -67,12 +67,12 @@ impl Player {
         ensures refused { OnErr result (IsWhole scenario.now self.old.recorded.entries self.old.skipped → ⊥) }
     {
         let actions = scenario.actions();
-        let mut cursor = self.cursor.copy();
+        let mut cursor = self.cursor();
         let turn = self.next(&mut cursor, scenario);
         if !self.make(alloc, actions, turn)? {
             return Ok(false);
         }
-        self.cursor = cursor;
+        self.move_to(cursor);
         Ok(true)
     }
 
@@ -92,10 +92,16 @@ impl Player {
         self.world.finish(self.skipped)
     }
 
-    /// The next turn at the player's place. This cursor stands behind it afterwards; the player's goes on only once the turn
-    /// was made, since that may be refused.
-    fn next(&mut self, cursor: &mut Cursor, scenario: &Scenario) -> Turn
-        requires plays { Plays scenario.now self.old }
+    /// A cursor at the player's place. It takes no memory.
+    pub fn cursor(&self) -> Cursor
+        ensures { result ≡ self.now.spot }
+    {
+        self.cursor.copy()
+    }
+
+    /// The next turn at the player's place. This cursor stands behind it afterwards; the player's goes on only by
+    /// [`move_to`](Player::move_to), once the turn was made, since that may be refused.
+    pub fn next(&mut self, cursor: &mut Cursor, scenario: &Scenario) -> Turn
         requires at { cursor.old ≡ self.old.spot }
         ensures next { IsNext scenario.now self.old cursor.new result }
         ensures same { self.new ≡ self.old }
@@ -105,8 +111,21 @@ impl Player {
         cursor.next(scenario, &mut self.words, sent, oldest)
     }
 
-    /// Makes a turn of these actions, unless it says that none is left.
-    fn make(&mut self, alloc: Global, actions: &[Action], turn: Turn) -> Result<bool, OutOfMemory>
+    /// Goes on to a cursor, and leaves the record as it is.
+    pub fn move_to(&mut self, cursor: Cursor)
+        ensures { self.new ≡ moved_to cursor self.old }
+    {
+        self.cursor = cursor;
+    }
+
+    /// Makes a turn of these actions, and leaves the player at its place. The answer is false, with nothing changed, where the
+    /// turn says that none is left. After `OutOfMemory` the player is as before.
+    pub fn make(
+        &mut self,
+        alloc: Global,
+        actions: &[Action],
+        turn: Turn,
+    ) -> Result<bool, OutOfMemory>
         requires can { CanCome actions.now self.old turn }
         ensures answer { IfOk result (λ more. more ≡ is_some turn) }
         ensures made { OnOk result ((step : Step) → step_of actions.now turn ≡ Some step → self.new ≡ progress_after step self.old) }

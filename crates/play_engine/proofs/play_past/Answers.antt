@@ -16,4 +16,4 @@ returns-clause-played g c =
 
 pub returns-clause-legal : goal.returns-clause-legal
 returns-clause-legal g c =
-    legal_record c.args.scenario.now c.advance.new.self _ c.in_ok-advance.ensures.plays c.finish.ensures.legal c.finish.ensures.entries
+    legal_record c.args.scenario.now c.advance.new.self _ c.in_ok-advance.ensures.plays.on c.finish.ensures.legal c.finish.ensures.entries

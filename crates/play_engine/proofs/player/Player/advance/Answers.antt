@@ -2,9 +2,9 @@ use Rattle.std.proofs.Common.{List, rules, refl, sym, subst, ap, ◌∙◌}
 use Rattle.scenario_reader.specs.declared.action.Action.{Action}
 use Rattle.schedule.specs.Playing.{IsBeginning}
 use Rattle.schedule.specs.Schedule.{play_of}
-use Rattle.play_engine.specs.Advance.{progress_after}
+use Rattle.play_engine.specs.Advance.{TakesTurn, progress_after}
 use Rattle.play_engine.specs.Coming.{CanCome}
-use Rattle.play_engine.specs.Progress.{Progress, play_in}
+use Rattle.play_engine.specs.Progress.{Plays, Progress, play_in}
 use Rattle.play_engine.proofs.Going.{can_come, begins}
 use Rattle.play_engine.proofs.Wholes.{not_complete, stays, goes}
 use Rattle.play_engine.proofs.player.Player.advance.Goals as goal
@@ -13,7 +13,7 @@ pub make-requires : goal.make-requires
 make-requires c = record {
   can = subst (λ (a : Progress). CanCome c.actions-actions.result.now a c.next-turn.result) (sym c.next-turn.ensures.same)
       (subst (λ (xs : List Action). CanCome xs c.args.self.now c.next-turn.result) (sym c.actions-actions.ensures.value)
-      (can_come c.args.scenario.now c.args.self.now c.next-turn.new.cursor c.next-turn.result c.actions-actions.ensures.rules c.requires.plays
+      (can_come c.args.scenario.now c.args.self.now c.next-turn.new.cursor c.next-turn.result c.actions-actions.ensures.rules c.requires.plays.on
       c.next-turn.ensures.next));
 }
 
@@ -58,27 +58,27 @@ returns-then-not-branch-clause-exactly c = (
 )
 
 pub returns-clause-plays : goal.returns-clause-plays
-returns-clause-plays c = (goes c.args.scenario.now c.args.self.now
-    (record { recorded = c.self-2.inside.world; spot = c.self-2.inside.cursor; skipped = c.self-2.inside.skipped })
-    c.next-turn.new.cursor c.next-turn.result c.actions-actions.result.now
+returns-clause-plays c =
+    subst (λ (b : Progress). Plays c.args.scenario.now b) (sym c.move_to.ensures)
+    (goes c.args.scenario.now c.args.self.now c.make.new.self c.next-turn.new.cursor c.next-turn.result c.actions-actions.result.now
     c.actions-actions.ensures.rules c.actions-actions.ensures.value c.requires.plays c.next-turn.ensures.next
-    (λ step is. c.self-2.view_is ∙ c.in_ok-make.ensures.made step is ∙ ap (progress_after step) c.next-turn.ensures.same)
+    (λ step is. c.in_ok-make.ensures.made step is ∙ ap (progress_after step) c.next-turn.ensures.same)
     (sym c.in_ok-make.ensures.answer ∙ c.if-not-branch.false)).plays
 
 pub returns-clause-so_far : goal.returns-clause-so_far
-returns-clause-so_far c = (goes c.args.scenario.now c.args.self.now
-    (record { recorded = c.self-2.inside.world; spot = c.self-2.inside.cursor; skipped = c.self-2.inside.skipped })
-    c.next-turn.new.cursor c.next-turn.result c.actions-actions.result.now
+returns-clause-so_far c =
+    subst (λ (b : Progress). IsBeginning (play_in b) (play_of c.args.scenario.now)) (sym c.move_to.ensures)
+    (goes c.args.scenario.now c.args.self.now c.make.new.self c.next-turn.new.cursor c.next-turn.result c.actions-actions.result.now
     c.actions-actions.ensures.rules c.actions-actions.ensures.value c.requires.plays c.next-turn.ensures.next
-    (λ step is. c.self-2.view_is ∙ c.in_ok-make.ensures.made step is ∙ ap (progress_after step) c.next-turn.ensures.same)
+    (λ step is. c.in_ok-make.ensures.made step is ∙ ap (progress_after step) c.next-turn.ensures.same)
     (sym c.in_ok-make.ensures.answer ∙ c.if-not-branch.false)).so_far
 
 pub returns-clause-turn : goal.returns-clause-turn
-returns-clause-turn c = (goes c.args.scenario.now c.args.self.now
-    (record { recorded = c.self-2.inside.world; spot = c.self-2.inside.cursor; skipped = c.self-2.inside.skipped })
-    c.next-turn.new.cursor c.next-turn.result c.actions-actions.result.now
+returns-clause-turn c =
+    subst (λ (b : Progress). TakesTurn c.args.scenario.now c.args.self.now b) (sym c.move_to.ensures)
+    (goes c.args.scenario.now c.args.self.now c.make.new.self c.next-turn.new.cursor c.next-turn.result c.actions-actions.result.now
     c.actions-actions.ensures.rules c.actions-actions.ensures.value c.requires.plays c.next-turn.ensures.next
-    (λ step is. c.self-2.view_is ∙ c.in_ok-make.ensures.made step is ∙ ap (progress_after step) c.next-turn.ensures.same)
+    (λ step is. c.in_ok-make.ensures.made step is ∙ ap (progress_after step) c.next-turn.ensures.same)
     (sym c.in_ok-make.ensures.answer ∙ c.if-not-branch.false)).turn
 
 pub returns-clause-exactly : goal.returns-clause-exactly
