@@ -4,7 +4,7 @@
 ghost use Rattle.std.specs.Prelude.{IfOk};
 ghost use Rattle.overlay_rules.specs.Record.{IsRecord};
 ghost use Rattle.schedule.specs.Schedule.{setting_of};
-ghost use Rattle.play_engine.specs.Progress.{IsWhole};
+ghost use Rattle.play_engine.specs.Progress.{IsWhole, Plays};
 
 mod player;
 
@@ -33,13 +33,27 @@ pub fn play_past<T: Turnstile>(
     ensures played { IfOk result (λ steps. IsWhole scenario.now steps.entries steps.skipped) }
     ensures legal { IfOk result (λ steps. IsRecord (setting_of scenario.now) steps.entries) }
 {
+    let player = played_past(alloc, scenario, turnstile)?;
+    Ok(player.finish())
+}
+
+/// A player that has played a scenario to its end, past a turnstile as [`play_past`] does: the world stands as it was left.
+/// The only error is that memory was refused.
+pub fn played_past<T: Turnstile>(
+    alloc: Global,
+    scenario: &Scenario,
+    turnstile: &T,
+) -> Result<Player, OutOfMemory>
+    ensures plays { IfOk result (λ player. Plays scenario.now player) }
+    ensures whole { IfOk result (λ player. IsWhole scenario.now player.recorded.entries player.skipped) }
+{
     let mut player = Player::new(alloc, scenario)?;
     let mut turn: u64 = 0;
     while player.advance(alloc, scenario)? {
         turnstile.pass(0, turn);
         turn = turn.wrapping_add(1);
     }
-    Ok(player.finish())
+    Ok(player)
 }
 
 #[cfg(test)]

@@ -1,6 +1,6 @@
 use Rattle.schedule.proofs.Ending.{work}
 use Rattle.play_engine.specs.Progress.{Plays, left_in}
-use Rattle.play_engine.proofs.play_past.Given as goal
+use Rattle.play_engine.proofs.played_past.Given as goal
 
 abbrev pub invariant-loop-player : goal.invariant-loop-player
 invariant-loop-player g l = record {
