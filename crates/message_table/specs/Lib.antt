@@ -1,0 +1,5 @@
+pub mod Labels
+pub mod Messages
+pub mod Entries
+pub mod Ends
+pub mod Table
