@@ -5,4 +5,3 @@ pub mod Growing
 pub mod Serves
 pub mod Putting
 pub mod Gathered
-mod NewPasses

@@ -11,7 +11,11 @@ use Rattle.node_cell.specs.Cell.{Cell, stamp_of}
 abbrev pub greater_stamp : Cell → CellInput → Stamp
 greater_stamp c i = max (stamp_of c) (input_stamp i)
 
--- a cell's stamps are spent exactly where the greater one is the last
+-- stamps are spent exactly where the greater one, of the stamp so far and the input's, is the last
+abbrev pub IsDueAt : Stamp → CellInput → CellFault → Type 0
+IsDueAt last i (fault.Spent stamp) = (stamp ≡ LAST_STAMP) × (max last (input_stamp i) ≡ LAST_STAMP)
+IsDueAt last i fault.OutOfMemory = Unit {0}
+
+-- of a cell
 abbrev pub IsDueTo : Cell → CellInput → CellFault → Type 0
-IsDueTo c i (fault.Spent stamp) = (stamp ≡ LAST_STAMP) × (greater_stamp c i ≡ LAST_STAMP)
-IsDueTo c i fault.OutOfMemory = Unit {0}
+IsDueTo c i f = IsDueAt (stamp_of c) i f

@@ -5,6 +5,7 @@ pub mod Carried
 pub mod Cell
 pub mod Kept
 pub mod Faults
+pub mod Live
 pub mod Taken
 pub mod Equipped
 pub mod Serving

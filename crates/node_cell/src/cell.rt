@@ -15,8 +15,10 @@ use crate::carried::Carried;
 use crate::entry::{CellEntry, CellInput};
 use crate::fault::CellFault;
 use crate::frames::{Addressed, append};
+use crate::live::node_at_start;
 use crate::plan::{Planned, plan};
 use crate::reading::read;
+use crate::stamps::stamp_after;
 use node_core::Node;
 use ring_math::{Id, OutOfMemory};
 use std::alloc::Global;
@@ -52,11 +54,7 @@ impl NodeCell {
     pub fn new(alloc: Global, me: Id, founder: bool) -> Result<NodeCell, OutOfMemory>
         ensures { IfOk result (λ cell. cell ≡ empty_cell me founder) }
     {
-        let node = if founder {
-            Node::founder(alloc, me)?
-        } else {
-            Node::fresh(alloc, me)?
-        };
+        let node = node_at_start(alloc, me, founder)?;
         Ok(NodeCell {
             node,
             is_founder: founder,
@@ -161,10 +159,6 @@ impl NodeCell {
         ensures ok { IfOk result (λ stamp. stamp ≡ suc (greater_stamp self.now (plain_input_of input.now))) }
         ensures due { IfErr result (IsDueTo self.now (plain_input_of input.now)) }
     {
-        let greater = self.stamp.max(input.stamp());
-        match greater.checked_add(1) {
-            Some(stamp) => Ok(stamp),
-            None => Err(CellFault::Spent { stamp: greater }),
-        }
+        stamp_after(self.stamp, input)
     }
 }

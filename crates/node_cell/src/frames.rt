@@ -15,9 +15,9 @@ use wire_msg::{Envelope, Envelopes, Frame, Outgoing, Sends};
 
 /// A frame, and whom it is for.
 #[derive(Drop)]
-pub(crate) struct Addressed {
-    pub(crate) receiver: Id,
-    pub(crate) frame: Frame,
+pub struct Addressed {
+    pub receiver: Id,
+    pub frame: Frame,
 }
 
 /// Each message in an envelope from this sender, with this stamp. The messages are moved, and not copied.

@@ -10,17 +10,19 @@ mod entry;
 mod fault;
 mod frames;
 mod gathering;
+mod live;
 mod plan;
 mod posting;
 mod reading;
 mod serving;
+mod stamps;
 
 pub use cell::NodeCell;
 pub use entry::{CellEntry, CellInput};
 pub use fault::CellFault;
+pub use frames::Addressed;
 pub use gathering::gather;
+pub use live::{LiveNode, Taken};
 
-#[cfg(test)]
-mod mailbox_tests;
 #[cfg(test)]
 mod tests;

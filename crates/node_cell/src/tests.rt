@@ -1,13 +1,13 @@
-//! What no clause says: that cells take in what comes with ample memory, and whole rows, frame by frame, among several cells.
+//! What no clause says: that a cell, and a node that keeps no history, take in what comes with ample memory.
 
-ghost use Rattle.std.specs.Prelude.{◌≡◌, None, All, IfOk};
+ghost use Rattle.std.specs.Prelude.{◌≡◌, None};
 
-use crate::{CellFault, CellInput, NodeCell};
-use ring_math::Id;
+use crate::{CellFault, CellInput, LiveNode, NodeCell};
+use ring_math::{Id, OutOfMemory};
 use std::alloc::Global;
 use std::test::Fail;
 use wire_codec::encode;
-use wire_msg::{Answer, Command, Envelope, Frame, Message, Note};
+use wire_msg::{Command, Envelope, Frame, Message};
 
 const A: Id = Id(0x10 << 120);
 
@@ -16,138 +16,6 @@ const B: Id = Id(0x90 << 120);
 const C: Id = Id(0x30 << 120);
 
 fn is_sent<T: Send>(_value: &T) {}
-
-/// The cells of a row's nodes.
-#[derive(Drop)]
-struct Trial {
-    cells: Vec<NodeCell>,
-    ghost without: { All (λ cell. cell.carried ≡ None) cells.items },
-}
-
-/// The cell of a node that was told to join, as its first command.
-fn joining(alloc: Global, me: Id, number: u64, via: Id) -> Result<NodeCell, Fail>
-    ensures { IfOk result (λ cell. cell.carried ≡ None) }
-{
-    let mut cell = NodeCell::new(alloc, me, false)?;
-    cell.submit(alloc, number, &Command::Join { via })?;
-    Ok(cell)
-}
-
-/// The first frame that a cell did not hand out yet.
-fn next_of(cells: &mut [NodeCell]) -> Option<(Id, Frame)>
-    requires { All (λ cell. cell.carried ≡ None) cells.old }
-    ensures { All (λ cell. cell.carried ≡ None) cells.new }
-{
-    for place in 0..cells.len() {
-        let cell = &mut cells[place];
-        if let Some(next) = cell.next_unsent() {
-            return Some(next);
-        }
-    }
-    None
-}
-
-/// Hands the frame over to the cell that it is for.
-fn hand_over(
-    cells: &mut [NodeCell],
-    alloc: Global,
-    receiver: Id,
-    frame: &Frame,
-) -> Result<(), CellFault>
-    requires { All (λ cell. cell.carried ≡ None) cells.old }
-    ensures { All (λ cell. cell.carried ≡ None) cells.new }
-{
-    for place in 0..cells.len() {
-        let cell = &mut cells[place];
-        if cell.me() == receiver {
-            cell.handle(alloc, frame.as_slice())?;
-        }
-    }
-    Ok(())
-}
-
-impl Trial {
-    fn new(alloc: Global) -> Trial {
-        Trial {
-            cells: Vec::new(alloc),
-        }
-    }
-
-    fn add(&mut self, cell: NodeCell) -> Result<(), Fail>
-        requires { cell.carried ≡ None }
-    {
-        self.cells.push(cell)?;
-        Ok(())
-    }
-
-    /// Hands over frames until none is left, each to the cell that it is for.
-    fn settle(&mut self, alloc: Global) -> Result<(), Fail> {
-        for _ in 0..1_000 {
-            let Some((receiver, frame)) = next_of(&mut self.cells) else {
-                return Ok(());
-            };
-            hand_over(&mut self.cells, alloc, receiver, &frame)?;
-        }
-        Err("too many frames")?
-    }
-
-    fn entries(&self) -> usize {
-        let mut count: usize = 0;
-        for cell in &self.cells {
-            count = count.saturating_add(cell.history().len());
-        }
-        count
-    }
-
-    fn sent(&self) -> usize {
-        let mut count: usize = 0;
-        for cell in &self.cells {
-            for entry in cell.history() {
-                count = count.saturating_add(entry.sent.as_slice().len());
-            }
-        }
-        count
-    }
-
-    /// The links between which a command's node joined.
-    fn joined(&self, command: u64) -> Option<(Id, Id)> {
-        for cell in &self.cells {
-            for entry in cell.history() {
-                for note in entry.notes.as_slice() {
-                    if let Note::Closed {
-                        number,
-                        answer: Answer::Joined { left, right },
-                    } = note
-                        && *number == command
-                    {
-                        return Some((*left, *right));
-                    }
-                }
-            }
-        }
-        None
-    }
-}
-
-/// A founds a ring; B joins by way of A, and then C by way of B.
-fn join_both(trial: &mut Trial, alloc: Global) -> Result<(), Fail> {
-    trial.add(NodeCell::new(alloc, A, true)?)?;
-    trial.add(joining(alloc, B, 1, A)?)?;
-    trial.settle(alloc)?;
-    trial.add(joining(alloc, C, 2, B)?)?;
-    trial.settle(alloc)
-}
-
-#[test]
-fn a_second_node_joins(rt: HostRuntime) -> Result<(), Fail> {
-    let mut trial = Trial::new(rt.alloc());
-    join_both(&mut trial, rt.alloc())?;
-    assert_eq!(rt; trial.joined(1), Some((A, A)));
-    assert_eq!(rt; trial.joined(2), Some((A, B)));
-    assert_eq!(rt; trial.entries(), 25);
-    assert_eq!(rt; trial.sent(), 23);
-    Ok(())
-}
 
 /// A message to a node, with a stamp, comes to a cell.
 fn take(
@@ -234,5 +102,38 @@ fn a_spent_cell_takes_nothing_in(rt: HostRuntime) -> Result<(), Fail> {
 #[test]
 fn a_cell_can_be_lent_to_a_thread(rt: HostRuntime) -> Result<(), Fail> {
     is_sent(&NodeCell::new(rt.alloc(), A, true)?);
+    Ok(())
+}
+
+/// A message to A with stamp 9.
+fn later_frame(alloc: Global) -> Result<Frame, OutOfMemory> {
+    let envelope = Envelope {
+        sender: B,
+        receiver: A,
+        stamp: 9,
+        message: Message::Announce,
+    };
+    encode(alloc, &envelope)
+}
+
+/// The stamp at which a node is told to join, and how many frames it then sends.
+fn told(live: &mut LiveNode, alloc: Global) -> Result<(u64, usize), CellFault> {
+    let taken = live.submit(alloc, 1, &Command::Join { via: B })?;
+    Ok((taken.entry.stamp, taken.frames.len()))
+}
+
+/// The stamp at which bytes come to a node, and how many frames it then sends.
+fn came(live: &mut LiveNode, alloc: Global, bytes: &[u8]) -> Result<(u64, usize), CellFault> {
+    let taken = live.handle(alloc, bytes)?;
+    Ok((taken.entry.stamp, taken.frames.len()))
+}
+
+#[test]
+fn a_node_goes_on_without_its_history(rt: HostRuntime) -> Result<(), Fail> {
+    let mut live = LiveNode::new(rt.alloc(), A, false)?;
+    assert_eq!(rt; told(&mut live, rt.alloc())?, (1, 1));
+    assert_eq!(rt; came(&mut live, rt.alloc(), b"")?, (2, 0));
+    let frame = later_frame(rt.alloc())?;
+    assert_eq!(rt; came(&mut live, rt.alloc(), frame.as_slice())?, (10, 0));
     Ok(())
 }

@@ -7,6 +7,7 @@ pub mod Standing
 pub mod Wanting
 pub mod Strays
 pub mod Unreads
+pub mod Missing
 pub mod Woven
 pub mod Passing
 pub mod Passages

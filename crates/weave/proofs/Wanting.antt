@@ -44,7 +44,7 @@ get_take [] (suc i) m y lt e = e
 get_take (x ∷ xs) (suc i) zero y lt e = e
 get_take (x ∷ xs) (suc i) (suc m) y lt e = get_take xs i m y (omega arith) e
 
-get_map : (xs : List CodeEnvelope) (i : ℕ) (x : CodeEnvelope) → i < length xs → x ≡ get_or xs i x →
+pub get_map : (xs : List CodeEnvelope) (i : ℕ) (x : CodeEnvelope) → i < length xs → x ≡ get_or xs i x →
     slice_get (map plain_envelope xs) i ≡ Some (plain_envelope x)
 get_map [] i x lt is = absurd (omega arith)
 get_map (y ∷ xs) zero x lt is = ap (λ (v : CodeEnvelope). Some (plain_envelope v)) (sym is)

@@ -4,6 +4,7 @@ pub mod ByStamp
 pub mod Stray
 pub mod Stops
 pub mod Unread
+pub mod Taken
 pub mod Wanted
 pub mod Through
 pub mod Alike

@@ -29,3 +29,12 @@ pub record IsFirstUnread (hs : List History) (receiver x : Id) (place : ℕ) (v 
 -- there is none
 pub record AllRead (hs : List History) (receiver : Id) : Type 0 where
   pub none : (x : Id) (place n : ℕ) (v : Envelope) → IsUnread hs receiver x place n v → ⊥
+
+-- there is one, for some node
+pub record IsSomeUnread (hs : List History) : Type 0 where
+  pub receiver : Id
+  pub node : Id
+  pub place : ℕ
+  pub n : ℕ
+  pub envelope : Envelope
+  pub unread : IsUnread hs receiver node place n envelope

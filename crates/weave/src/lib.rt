@@ -6,6 +6,7 @@
 
 mod acts;
 mod fault;
+mod reading;
 mod relay;
 mod search;
 mod through;
@@ -14,6 +15,7 @@ mod waiting;
 mod weaving;
 
 pub use fault::WeaveFault;
+pub use reading::all_read;
 pub use through::through_cells;
 pub use untaken::unread;
 pub use waiting::Unread;

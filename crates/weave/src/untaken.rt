@@ -9,7 +9,7 @@ ghost use Rattle.weave.specs.Unread.{AllRead, IsFirstUnread};
 ghost use Rattle.weave.specs.Wanted.{HasNoWanted, IsFirstWanted, IsFound, HasSame, taken_by, taken_in};
 
 use crate::acts::{Act, woven_order};
-use crate::search::place_of;
+use crate::search::{by_stamp, place_of};
 use crate::waiting::Unread;
 use node_cell::{CellInput, NodeCell};
 use ring_math::{Id, OutOfMemory};
@@ -41,9 +41,8 @@ fn taken_sorted<'a>(
     ensures sorted { IfOk result (λ taken. AreByStamp (envelopes_at taken.items)) }
     ensures same { IfOk result (λ taken. HasSame (taken_by receiver (acts_in (map placed acts.now))) (envelopes_at taken.items)) }
 {
-    let mut taken = taken_by(alloc, acts, receiver)?;
-    taken.sort_unstable_by_key(|envelope| (envelope.stamp, envelope.sender.0));
-    Ok(taken)
+    let taken = taken_by(alloc, acts, receiver)?;
+    Ok(by_stamp(taken))
 }
 
 fn taken_by<'a>(

@@ -1,6 +1,0 @@
-use Rattle.std.proofs.Common.{◌≡◌, None}
-use Rattle.std.specs.Prelude.{All}
-use Rattle.node_cell.proofs.tests.next_of.Given as goal
-
-abbrev pub invariant-loop-place : goal.invariant-loop-place
-invariant-loop-place l = record { without : All (λ cell. cell.carried ≡ None) l.cells }
