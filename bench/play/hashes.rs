@@ -49,11 +49,12 @@ fn quarter(x: &mut [u32; 16], a: usize, b: usize, c: usize, d: usize) {
     x[b] = (x[b] ^ x[c]).rotate_left(7);
 }
 
-fn block(seed: u64, number: u64) -> [u32; 16] {
+fn block(seed: u64, stream: u64, number: u64) -> [u32; 16] {
     let mut start = [0u32; 16];
     start[..4].copy_from_slice(&[0x61707865, 0x3320646e, 0x79622d32, 0x6b206574]);
     (start[4], start[5]) = (seed as u32, (seed >> 32) as u32);
     (start[12], start[13]) = (number as u32, (number >> 32) as u32);
+    (start[14], start[15]) = (stream as u32, (stream >> 32) as u32);
     let mut mixed = start;
     for _ in 0..4 {
         for (a, b, c, d) in [(0, 4, 8, 12), (1, 5, 9, 13), (2, 6, 10, 14), (3, 7, 11, 15)] {
@@ -69,9 +70,10 @@ fn block(seed: u64, number: u64) -> [u32; 16] {
     mixed
 }
 
-/// The 32-bit words of ChaCha8 with the key that is this seed and zeros.
+/// The 32-bit words of a stream of ChaCha8 with the key that is this seed and zeros.
 struct Random {
     seed: u64,
+    stream: u64,
     /// The number of the next word.
     next: u64,
     block: [u32; 16],
@@ -79,13 +81,17 @@ struct Random {
 
 impl Random {
     fn new(seed: u64) -> Random {
-        Random { seed, next: 0, block: [0; 16] }
+        Random::of_stream(seed, 0)
+    }
+
+    fn of_stream(seed: u64, stream: u64) -> Random {
+        Random { seed, stream, next: 0, block: [0; 16] }
     }
 
     fn word(&mut self) -> u32 {
         let at = self.next as usize % 16;
         if at == 0 {
-            self.block = block(self.seed, self.next / 16);
+            self.block = block(self.seed, self.stream, self.next / 16);
         }
         self.next += 1;
         self.block[at]

@@ -1,9 +1,10 @@
 //! The program in plain Rust, without contracts, made to be fast: reads a scenario from standard input, plays it, and prints its
 //! report. It takes only scenarios that are right. It keeps the whole record, as the proved program does. With the words `made
-//! NODES SEED` it prints the scenario that the proved program's `big` plays.
+//! NODES SEED` it prints the scenario that the proved program's `big` plays; with `large NODES SEED SIZE` and `points ROOM` it does
+//! what the modes of these names do.
 #![allow(dead_code)]
 
-use std::collections::HashMap;
+use std::collections::{BTreeMap, HashMap};
 use std::io::{Read, Write};
 use std::rc::Rc;
 
@@ -17,6 +18,8 @@ include!("record.rs");
 include!("scenario.rs");
 include!("report.rs");
 include!("made.rs");
+include!("large.rs");
+include!("points.rs");
 
 fn play_input() {
     let mut input = String::new();
@@ -30,10 +33,26 @@ fn play_input() {
     std::mem::forget(world);
 }
 
+fn play_input_with_points(room: usize) {
+    let mut input = String::new();
+    std::io::stdin().read_to_string(&mut input).unwrap();
+    let mut declared = Declared::of(&input);
+    let mut world = World::new(std::mem::take(&mut declared.nodes));
+    let mut points = Points::new(world.ids().len(), room);
+    play_lines(&declared, &mut world, &input, |world, at, command| points.command(world, at, command));
+    std::io::stdout().write_all(&report_points(&points, &world, &declared.named)).unwrap();
+    std::mem::forget(world);
+}
+
 fn main() {
     let words: Vec<String> = std::env::args().skip(1).collect();
     match &words[..] {
         [word, nodes, seed] if word == "made" => print!("{}", made(nodes.parse().unwrap(), seed.parse().unwrap())),
+        [word, nodes, seed, size] if word == "large" => {
+            let text = large(nodes.parse().unwrap(), seed.parse().unwrap(), size.parse().unwrap());
+            std::io::stdout().write_all(&text).unwrap();
+        }
+        [word, room] if word == "points" => play_input_with_points(room.parse().unwrap()),
         _ => play_input(),
     }
 }

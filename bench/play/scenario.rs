@@ -81,7 +81,17 @@ impl<'a> Declared<'a> {
 
 /// The world at the end, and how many commands were given.
 fn play(declared: &Declared, world: &mut World, input: &str) -> u64 {
-    let (mut commands, mut copies) = (0, 1);
+    let mut commands = 0;
+    play_lines(declared, world, input, |world, at, command| {
+        commands += 1;
+        world.command(at, commands, command);
+    });
+    commands
+}
+
+/// Plays the lines of a scenario, and does with each command what is to be done.
+fn play_lines(declared: &Declared, world: &mut World, input: &str, mut told: impl FnMut(&mut World, Id, Command)) {
+    let mut copies = 1;
     let mut words = Vec::new();
     for line in input.lines() {
         words.clear();
@@ -94,10 +104,8 @@ fn play(declared: &Declared, world: &mut World, input: &str) -> u64 {
             ["dup", count] => copies = count.parse().unwrap(),
             _ => {
                 let Some(command) = declared.command(&words) else { continue };
-                commands += 1;
-                world.command(declared.ids[words[1]], commands, command);
+                told(world, declared.ids[words[1]], command);
             }
         }
     }
-    commands
 }

@@ -1,23 +1,26 @@
 -- What a reading comes to behind the last word: defaults for what is absent, and the mode and numbers that are found.
-use Rattle.std.proofs.Common.{◌≡◌, ℕ, ◌∙◌, ap, sym, true, false, refl, List, [], ◌∷◌, ◌++◌, codes, map, Bool, ◌||◌, cond, if◌then◌else◌, Option, Some, None}
-use Rattle.std.proofs.Common.{IsSome, decimal, arith, ◌⊎◌, inl, inr}
+use Rattle.std.proofs.Common.{◌≡◌, ◌≤◌, ◌<◌, ◌^◌, ℕ, ◌∙◌, ap, sym, subst, true, false, refl, List, [], ◌∷◌, ◌++◌, codes, map, Bool, ◌||◌, cond, if◌then◌else◌}
+use Rattle.std.proofs.Common.{Option, Some, None, IsSome, decimal, arith, ◌⊎◌, inl, inr}
 use Rattle.std.specs.Borrow.{Bor}
 use Rattle.std.specs.Option.{option_and_then}
 use Rattle.std.specs.Prelude.{find, fold}
 use Rattle.std.specs.Str.{bytes_eq}
+use Rattle.clap.specs.Values.{read_as}
 use Rattle.clap.specs.Walk.{Text, Row, Rule, has_row, with_default, first_of}
 use Rattle.clap.specs.Faults.{default_fault, defaults_fault, check_fault}
 use Rattle.clap.specs.Kinds.{Kinds, or_else}
 use Rattle.clap.specs.declared.builder.value_parser.Reading.TheVariants.{WithoutMinus, AsWritten}
 use Rattle.clap.specs.declared.parser.matches.ValueSource.TheVariants.{DefaultValue}
 use Rattle.clap.proofs.OnLiterals.{clap_on_literals}
-use Rattle.cli_words.specs.declared.limits.TheConstants.{DEFAULT_NODES, DEFAULT_NODES_TEXT, DEFAULT_SEED, DEFAULT_SEED_TEXT, DEFAULT_ROOM_TEXT}
-use Rattle.cli_words.specs.declared.limits.TheConstants.{DEFAULT_SIZE_TEXT}
-use Rattle.cli_words.specs.Command.{number_of, mode_named, mode_of}
-use Rattle.cli_words.specs.Plain.{Setting, Nodes, Seed, Room, Size, setting_name, InRange, Piece, Names, Apart, Joined, mode_said, number_said, mode_by}
+use Rattle.cli_words.specs.declared.limits.TheConstants.{DEFAULT_NODES, DEFAULT_NODES_TEXT, DEFAULT_SEED, DEFAULT_SEED_TEXT, DEFAULT_ROOM, DEFAULT_ROOM_TEXT}
+use Rattle.cli_words.specs.declared.limits.TheConstants.{DEFAULT_SIZE, DEFAULT_SIZE_TEXT}
+use Rattle.cli_words.specs.declared.modes.Numbers.{Numbers}
+use Rattle.cli_words.specs.Command.{number_in, number_of, numbers_of, mode_named, mode_of}
+use Rattle.cli_words.specs.Plain.{Setting, Nodes, Seed, Room, Size, setting_name, InRange, Piece, Names, Apart, Joined, mode_said, number_said, numbers_said}
+use Rattle.cli_words.specs.Plain.{mode_by}
 use Rattle.cli_words.proofs.Rows.{value_row, with_values-absent, find-more, none_found, has_row-more}
 use Rattle.cli_words.proofs.Steps.{top, rules, rule_at, Slot, row_at, reading_at}
-use Rattle.cli_words.proofs.Walking.{row_of, EachPiece}
+use Rattle.cli_words.proofs.Walking.{row_of, EachPiece, option_is_no_mode}
 use Rattle.cli_words.proofs.Numerals.{decimal_as_read, decimal_number}
 
 -- ---- defaults fail nothing
@@ -145,43 +148,102 @@ look_default names s rows h =
     ap (λ (rs : List Row). look (setting_name s) rs) (added names s rows h) ∙ find-more (setting_name s) rows (default_row s (default_text s)) h ∙
     (let same = same_text s in rw same refl)
 
--- all the rows at the end
+-- ---- all the rows at the end
+
 abbrev pub whole : Bor (List (Bor Text)) → List Row → List Row
 whole names rows = fold with_default rows (rules names)
 
--- with the defaults of the nodes, then of the seed, then of the room
-abbrev with_nodes : Bor (List (Bor Text)) → List Row → List Row
-with_nodes names rows = with_default rows (rule_at names (Some Nodes))
+abbrev with_defaults : Bor (List (Bor Text)) → List Setting → List Row → List Row
+with_defaults names [] rows = rows
+with_defaults names (s ∷ settings) rows = with_defaults names settings (with_default rows (rule_at names (Some s)))
 
-abbrev with_seed : Bor (List (Bor Text)) → List Row → List Row
-with_seed names rows = with_default (with_nodes names rows) (rule_at names (Some Seed))
-
-abbrev with_room : Bor (List (Bor Text)) → List Row → List Row
-with_room names rows = with_default (with_seed names rows) (rule_at names (Some Room))
-
-whole_is : (names : Bor (List (Bor Text))) (rows : List Row) → whole names rows ≡ with_default (with_room names rows) (rule_at names (Some Size))
+-- the defaults of all options, one after another
+whole_is : (names : Bor (List (Bor Text))) (rows : List Row) → whole names rows ≡ with_defaults names (Nodes ∷ Seed ∷ Room ∷ Size ∷ []) rows
 whole_is names rows =
     ap (λ (rs : List Rule). fold with_default rows rs) (rules_are names) ∙
-    ap (λ (first : List Row). with_default (with_default (with_default (with_default first (rule_at names (Some Nodes))) (rule_at names (Some Seed)))
-    (rule_at names (Some Room))) (rule_at names (Some Size))) (mode_kept names rows)
+    ap (with_defaults names (Nodes ∷ Seed ∷ Room ∷ Size ∷ [])) (mode_kept names rows)
 
--- neither the room nor the size hides another argument
-look_in_whole : (names : Bor (List (Bor Text))) (id : Text) (rows : List Row) → bytes_eq (codes "room") id ≡ false → bytes_eq (codes "size") id ≡ false →
-    look id (whole names rows) ≡ look id (with_seed names rows)
-look_in_whole names id rows room size =
-    ap (λ (rs : List Row). look id rs) (whole_is names rows) ∙
-    look_other names Size id (with_room names rows) size ∙ look_other names Room id (with_seed names rows) room
+mode_behind : (names : Bor (List (Bor Text))) (settings : List Setting) (rows : List Row) →
+    look (codes "mode") (with_defaults names settings rows) ≡ look (codes "mode") rows
+mode_behind names [] rows = refl
+mode_behind names (s ∷ settings) rows =
+    mode_behind names settings (with_default rows (rule_at names (Some s))) ∙ look_other names s (codes "mode") rows (option_is_no_mode s)
 
 mode_in_whole : (names : Bor (List (Bor Text))) (rows : List Row) → look (codes "mode") (whole names rows) ≡ look (codes "mode") rows
 mode_in_whole names rows =
-    look_in_whole names (codes "mode") rows refl refl ∙ look_other names Seed (codes "mode") (with_nodes names rows) refl
-    ∙ look_other names Nodes (codes "mode") rows refl
+    ap (λ (rs : List Row). look (codes "mode") rs) (whole_is names rows) ∙ mode_behind names (Nodes ∷ Seed ∷ Room ∷ Size ∷ []) rows
 
-nodes_in_whole : (names : Bor (List (Bor Text))) (rows : List Row) → look (codes "nodes") (whole names rows) ≡ look (codes "nodes") (with_nodes names rows)
-nodes_in_whole names rows = look_in_whole names (codes "nodes") rows refl refl ∙ look_other names Seed (codes "nodes") (with_nodes names rows) refl
+-- an option is this one, or has another name
+same_or_other : (s t : Setting) → (t ≡ s) ⊎ (bytes_eq (setting_name t) (setting_name s) ≡ false)
+same_or_other Nodes Nodes = inl refl
+same_or_other Nodes Seed = inr refl
+same_or_other Nodes Room = inr refl
+same_or_other Nodes Size = inr refl
+same_or_other Seed Nodes = inr refl
+same_or_other Seed Seed = inl refl
+same_or_other Seed Room = inr refl
+same_or_other Seed Size = inr refl
+same_or_other Room Nodes = inr refl
+same_or_other Room Seed = inr refl
+same_or_other Room Room = inl refl
+same_or_other Room Size = inr refl
+same_or_other Size Nodes = inr refl
+same_or_other Size Seed = inr refl
+same_or_other Size Room = inr refl
+same_or_other Size Size = inl refl
 
-seed_in_whole : (names : Bor (List (Bor Text))) (rows : List Row) → look (codes "seed") (whole names rows) ≡ look (codes "seed") (with_seed names rows)
-seed_in_whole names rows = look_in_whole names (codes "seed") rows refl refl
+-- what is given stays, whatever defaults come
+given_stays : (names : Bor (List (Bor Text))) (s : Setting) (settings : List Setting) (rows : List Row) (r : Row) → look (setting_name s) rows ≡ Some r →
+    look (setting_name s) (with_defaults names settings rows) ≡ Some r
+given_stays names s [] rows r h = h
+given_stays names s (t ∷ settings) rows r h = given_stays names s settings (with_default rows (rule_at names (Some t))) r (by (same_or_other s t))
+  where
+    by : (t ≡ s) ⊎ (bytes_eq (setting_name t) (setting_name s) ≡ false) → look (setting_name s) (with_default rows (rule_at names (Some t))) ≡ Some r
+    by (inl e) = subst (λ (u : Setting). look (setting_name s) (with_default rows (rule_at names (Some u))) ≡ Some r) (sym e) (look_own names s rows r h)
+    by (inr e) = look_other names t (setting_name s) rows e ∙ h
+
+-- the default of one option is none of another
+still_absent : (names : Bor (List (Bor Text))) (s t : Setting) (rows : List Row) → bytes_eq (setting_name t) (setting_name s) ≡ false →
+    has_row (setting_name s) rows ≡ false → has_row (setting_name s) (with_default rows (rule_at names (Some t))) ≡ false
+still_absent names s t rows other h = by (has_row (setting_name t) rows) refl
+  where
+    by : (b : Bool) → has_row (setting_name t) rows ≡ b → has_row (setting_name s) (with_default rows (rule_at names (Some t))) ≡ false
+    by true e = ap (λ (rs : List Row). has_row (setting_name s) rs) (kept names t rows e) ∙ h
+    by false e =
+        ap (λ (rs : List Row). has_row (setting_name s) rs) (added names t rows e) ∙
+        has_row-more (setting_name s) rows (default_row t (default_text t)) ∙ rw (h, other) refl
+
+-- an option is one of these
+abbrev IsOneOf : Setting → List Setting → Type 0
+IsOneOf s [] = ⊥
+IsOneOf s (t ∷ settings) = (t ≡ s) ⊎ IsOneOf s settings
+
+-- behind the default of one option and then those of others, an option has its default
+abbrev Comes : Bor (List (Bor Text)) → Setting → List Setting → List Row → Setting → Type 0
+Comes names s settings rows t =
+    look (setting_name s) (with_defaults names settings (with_default rows (rule_at names (Some t)))) ≡ Some (default_row s (default_text s))
+
+-- what is absent has its default
+default_comes : (names : Bor (List (Bor Text))) (s : Setting) (settings : List Setting) (rows : List Row) → IsOneOf s settings →
+    has_row (setting_name s) rows ≡ false → look (setting_name s) (with_defaults names settings rows) ≡ Some (default_row s (default_text s))
+default_comes names s [] rows is h = absurd is
+default_comes names s (t ∷ settings) rows is h = by (same_or_other s t) is (default_comes names s settings (with_default rows (rule_at names (Some t))))
+  where
+    here : Comes names s settings rows s
+    here = given_stays names s settings (with_default rows (rule_at names (Some s))) (default_row s (default_text s)) (look_default names s rows h)
+
+    by : (t ≡ s) ⊎ (bytes_eq (setting_name t) (setting_name s) ≡ false) → (t ≡ s) ⊎ IsOneOf s settings →
+        (IsOneOf s settings → has_row (setting_name s) (with_default rows (rule_at names (Some t))) ≡ false → Comes names s settings rows t) →
+        Comes names s settings rows t
+    by (inl e) is later = subst (Comes names s settings rows) (sym e) here
+    by (inr e) (inl same) later = subst (Comes names s settings rows) (sym same) here
+    by (inr e) (inr is) later = later is (still_absent names s t rows e h)
+
+each_option : (s : Setting) → IsOneOf s (Nodes ∷ Seed ∷ Room ∷ Size ∷ [])
+each_option Nodes = inl refl
+each_option Seed = inr (inl refl)
+each_option Room = inr (inr (inl refl))
+each_option Size = inr (inr (inr (inl refl)))
 
 -- ---- what plain pieces leave
 
@@ -205,76 +267,96 @@ IsSaid s otherwise pieces =
     × InRange s (number_said (setting_name s) otherwise pieces))
     ⊎ ((has_row (setting_name s) (map row_of pieces) ≡ false) × (number_said (setting_name s) otherwise pieces ≡ otherwise))
 
-nodes_said : (otherwise : ℕ) (pieces : List Piece) → EachPiece pieces → IsSaid Nodes otherwise pieces
-nodes_said otherwise [] each = inr (refl, refl)
-nodes_said otherwise (Names m ∷ pieces) each = nodes_said otherwise pieces each.1
-nodes_said otherwise (Apart Nodes n ∷ pieces) each = inl (refl, each.0)
-nodes_said otherwise (Apart Seed n ∷ pieces) each = nodes_said otherwise pieces each.1
-nodes_said otherwise (Apart Room n ∷ pieces) each = nodes_said otherwise pieces each.1
-nodes_said otherwise (Apart Size n ∷ pieces) each = nodes_said otherwise pieces each.1
-nodes_said otherwise (Joined Nodes n ∷ pieces) each = inl (refl, each.0)
-nodes_said otherwise (Joined Seed n ∷ pieces) each = nodes_said otherwise pieces each.1
-nodes_said otherwise (Joined Room n ∷ pieces) each = nodes_said otherwise pieces each.1
-nodes_said otherwise (Joined Size n ∷ pieces) each = nodes_said otherwise pieces each.1
+said : (s : Setting) (otherwise : ℕ) (pieces : List Piece) → EachPiece pieces → IsSaid s otherwise pieces
+said s otherwise [] each = inr (refl, refl)
+said s otherwise (Names m ∷ pieces) each = behind_mode s (said s otherwise pieces each.1)
+  where
+    behind_mode : (t : Setting) → IsSaid t otherwise pieces → IsSaid t otherwise (Names m ∷ pieces)
+    behind_mode Nodes h = h
+    behind_mode Seed h = h
+    behind_mode Room h = h
+    behind_mode Size h = h
+said s otherwise (Apart t n ∷ pieces) each = by (same_or_other s t) (said s otherwise pieces each.1)
+  where
+    here : (u : Setting) → InRange u n → IsSaid u otherwise (Apart u n ∷ pieces)
+    here u range = let same = same_text u in rw same (inl (refl, range))
 
-seed_said : (otherwise : ℕ) (pieces : List Piece) → EachPiece pieces → IsSaid Seed otherwise pieces
-seed_said otherwise [] each = inr (refl, refl)
-seed_said otherwise (Names m ∷ pieces) each = seed_said otherwise pieces each.1
-seed_said otherwise (Apart Nodes n ∷ pieces) each = seed_said otherwise pieces each.1
-seed_said otherwise (Apart Seed n ∷ pieces) each = inl (refl, each.0)
-seed_said otherwise (Apart Room n ∷ pieces) each = seed_said otherwise pieces each.1
-seed_said otherwise (Apart Size n ∷ pieces) each = seed_said otherwise pieces each.1
-seed_said otherwise (Joined Nodes n ∷ pieces) each = seed_said otherwise pieces each.1
-seed_said otherwise (Joined Seed n ∷ pieces) each = inl (refl, each.0)
-seed_said otherwise (Joined Room n ∷ pieces) each = seed_said otherwise pieces each.1
-seed_said otherwise (Joined Size n ∷ pieces) each = seed_said otherwise pieces each.1
+    by : (t ≡ s) ⊎ (bytes_eq (setting_name t) (setting_name s) ≡ false) → IsSaid s otherwise pieces → IsSaid s otherwise (Apart t n ∷ pieces)
+    by (inl e) rest = subst (λ (u : Setting). IsSaid s otherwise (Apart u n ∷ pieces)) (sym e) (here s (subst (λ (u : Setting). InRange u n) e each.0))
+    by (inr e) rest = rw e rest
+said s otherwise (Joined t n ∷ pieces) each = by (same_or_other s t) (said s otherwise pieces each.1)
+  where
+    here : (u : Setting) → InRange u n → IsSaid u otherwise (Joined u n ∷ pieces)
+    here u range = let same = same_text u in rw same (inl (refl, range))
+
+    by : (t ≡ s) ⊎ (bytes_eq (setting_name t) (setting_name s) ≡ false) → IsSaid s otherwise pieces → IsSaid s otherwise (Joined t n ∷ pieces)
+    by (inl e) rest = subst (λ (u : Setting). IsSaid s otherwise (Joined u n ∷ pieces)) (sym e) (here s (subst (λ (u : Setting). InRange u n) e each.0))
+    by (inr e) rest = rw e rest
 
 -- ---- the mode and the numbers
 
-nodes_are : (names : Bor (List (Bor Text))) (pieces : List Piece) → EachPiece pieces →
-    number_of (codes "nodes") 4294967295 DEFAULT_NODES (whole names (map row_of pieces)) ≡ number_said (codes "nodes") DEFAULT_NODES pieces
-nodes_are names pieces each = by (nodes_said DEFAULT_NODES pieces each)
-  where
-    by : IsSaid Nodes DEFAULT_NODES pieces →
-        number_of (codes "nodes") 4294967295 DEFAULT_NODES (whole names (map row_of pieces)) ≡ number_said (codes "nodes") DEFAULT_NODES pieces
-    by (inl h) =
-        let low = h.1.0 in let high = h.1.1 in
-        let found = nodes_in_whole names (map row_of pieces)
-        ∙ look_own names Nodes (map row_of pieces) (row_at (Some Nodes) (decimal (number_said (codes "nodes") DEFAULT_NODES pieces))) h.0 in
-        let as_read = decimal_as_read (number_said (codes "nodes") DEFAULT_NODES pieces) (omega arith) in
-        rw (found, as_read) (decimal_number (number_said (codes "nodes") DEFAULT_NODES pieces) 4294967295 DEFAULT_NODES (omega arith) (omega arith))
-    by (inr h) =
-        let found = nodes_in_whole names (map row_of pieces) ∙ look_default names Nodes (map row_of pieces) h.0 in
-        rw found (sym h.1)
+-- the most that the number of an option can be, and the number that stands where it is not given
+abbrev most_of : Setting → ℕ
+most_of Nodes = 4294967295
+most_of Seed = 18446744073709551615
+most_of Room = 4294967295
+most_of Size = 4294967295
 
--- the default of the nodes is none of the seed
-seed_in_nodes : (names : Bor (List (Bor Text))) (rows : List Row) → has_row (codes "seed") rows ≡ false →
-    has_row (codes "seed") (with_default rows (rule_at names (Some Nodes))) ≡ false
-seed_in_nodes names rows h = by (has_row (codes "nodes") rows) refl
-  where
-    by : (b : Bool) → has_row (codes "nodes") rows ≡ b → has_row (codes "seed") (with_default rows (rule_at names (Some Nodes))) ≡ false
-    by true e = ap (λ (rs : List Row). has_row (codes "seed") rs) (kept names Nodes rows e) ∙ h
-    by false e =
-        ap (λ (rs : List Row). has_row (codes "seed") rs) (added names Nodes rows e)
-        ∙ has_row-more (codes "seed") rows (default_row Nodes (default_text Nodes)) ∙
-        rw h refl
+abbrev default_of : Setting → ℕ
+default_of Nodes = DEFAULT_NODES
+default_of Seed = DEFAULT_SEED
+default_of Room = DEFAULT_ROOM
+default_of Size = DEFAULT_SIZE
 
-seed_is : (names : Bor (List (Bor Text))) (pieces : List Piece) → EachPiece pieces →
-    number_of (codes "seed") 18446744073709551615 DEFAULT_SEED (whole names (map row_of pieces)) ≡ number_said (codes "seed") DEFAULT_SEED pieces
-seed_is names pieces each = by (seed_said DEFAULT_SEED pieces each)
+fits : (s : Setting) (n : ℕ) → InRange s n → (n < 2 ^ 64) × (n ≤ most_of s)
+fits Nodes n h = let high = h.1 in (omega arith, omega arith)
+fits Seed n h = (h, omega arith)
+fits Room n h = let high = h.1 in (omega arith, omega arith)
+fits Size n h = (omega arith, omega arith)
+
+as_read : (s : Setting) (n : ℕ) → n < 2 ^ 64 → read_as (reading_at (Some s)) (decimal n) ≡ decimal n
+as_read Nodes n h = decimal_as_read n h
+as_read Seed n h = refl
+as_read Room n h = decimal_as_read n h
+as_read Size n h = decimal_as_read n h
+
+default_number : (s : Setting) → number_in (most_of s) (default_of s) (read_as (reading_at (Some s)) (default_text s)) ≡ default_of s
+default_number Nodes = refl
+default_number Seed = refl
+default_number Room = refl
+default_number Size = refl
+
+number_is : (names : Bor (List (Bor Text))) (s : Setting) (pieces : List Piece) → EachPiece pieces →
+    number_of (setting_name s) (most_of s) (default_of s) (whole names (map row_of pieces)) ≡ number_said (setting_name s) (default_of s) pieces
+number_is names s pieces each =
+    ap (λ (rs : List Row). number_of (setting_name s) (most_of s) (default_of s) rs) (whole_is names (map row_of pieces)) ∙
+    by (said s (default_of s) pieces each)
   where
-    by : IsSaid Seed DEFAULT_SEED pieces →
-        number_of (codes "seed") 18446744073709551615 DEFAULT_SEED (whole names (map row_of pieces)) ≡ number_said (codes "seed") DEFAULT_SEED pieces
+    by : IsSaid s (default_of s) pieces →
+        number_of (setting_name s) (most_of s) (default_of s) (with_defaults names (Nodes ∷ Seed ∷ Room ∷ Size ∷ []) (map row_of pieces)) ≡
+        number_said (setting_name s) (default_of s) pieces
     by (inl h) =
-        let fits = h.1 in
-        let found = seed_in_whole names (map row_of pieces)
-        ∙ look_own names Seed (with_nodes names (map row_of pieces)) (row_at (Some Seed) (decimal (number_said (codes "seed") DEFAULT_SEED pieces)))
-        (look_other names Nodes (codes "seed") (map row_of pieces) refl ∙ h.0) in
-        rw found (decimal_number (number_said (codes "seed") DEFAULT_SEED pieces) 18446744073709551615 DEFAULT_SEED (omega arith) fits)
+        let n = number_said (setting_name s) (default_of s) pieces in
+        let fit = fits s n h.1 in
+        let found = given_stays names s (Nodes ∷ Seed ∷ Room ∷ Size ∷ []) (map row_of pieces) (row_at (Some s) (decimal n)) h.0 in
+        let read = as_read s n fit.0 in
+        rw (found, read) (decimal_number n (most_of s) (default_of s) fit.1 fit.0)
     by (inr h) =
-        let found = seed_in_whole names (map row_of pieces)
-        ∙ look_default names Seed (with_nodes names (map row_of pieces)) (seed_in_nodes names (map row_of pieces) h.0) in
-        rw found (sym h.1)
+        let found = default_comes names s (Nodes ∷ Seed ∷ Room ∷ Size ∷ []) (map row_of pieces) (each_option s) h.0 in
+        rw found (default_number s ∙ sym h.1)
+
+same_numbers : (a b : Numbers) → a.nodes ≡ b.nodes → a.seed ≡ b.seed → a.room ≡ b.room → a.size ≡ b.size → a ≡ b
+same_numbers a b nodes seed room size =
+    ap (λ n. record { nodes = n; seed = a.seed; room = a.room; size = a.size }) nodes ∙
+    ap (λ n. record { nodes = b.nodes; seed = n; room = a.room; size = a.size }) seed ∙
+    ap (λ n. record { nodes = b.nodes; seed = b.seed; room = n; size = a.size }) room ∙
+    ap (λ n. record { nodes = b.nodes; seed = b.seed; room = b.room; size = n }) size
+
+numbers_are : (names : Bor (List (Bor Text))) (pieces : List Piece) → EachPiece pieces →
+    numbers_of (whole names (map row_of pieces)) ≡ numbers_said pieces
+numbers_are names pieces each =
+    same_numbers (numbers_of (whole names (map row_of pieces))) (numbers_said pieces) (number_is names Nodes pieces each) (number_is names Seed pieces each)
+    (number_is names Room pieces each) (number_is names Size pieces each)
 
 some_mode : (pieces : List Piece) → IsSome (mode_said pieces) → (m : Text) × (mode_said pieces ≡ Some m)
 some_mode pieces h = by (mode_said pieces) h refl
@@ -288,14 +370,9 @@ pub mode_is : (names : Bor (List (Bor Text))) (pieces : List Piece) → EachPiec
 mode_is names pieces each some =
     let mode = some_mode pieces some in
     let found = mode_in_whole names (map row_of pieces) ∙ mode_found pieces mode.0 mode.1 in
-    let said = mode.1 in
-    ap (λ (n : ℕ). option_and_then (mode_named n (number_of (codes "seed") 18446744073709551615 DEFAULT_SEED (whole names (map row_of pieces))))
-    (first_of (codes "mode") (whole names (map row_of pieces)))) (nodes_are names pieces each) ∙
-    ap (λ (n : ℕ). option_and_then (mode_named (number_said (codes "nodes") DEFAULT_NODES pieces) n)
-    (first_of (codes "mode") (whole names (map row_of pieces))))
-    (seed_is names pieces each) ∙
-    ap (option_and_then (mode_named (number_said (codes "nodes") DEFAULT_NODES pieces) (number_said (codes "seed") DEFAULT_SEED pieces)))
-    (named (whole names (map row_of pieces)) mode.0 found ∙ sym said)
+    ap (λ (numbers : Numbers). option_and_then (mode_named numbers) (first_of (codes "mode") (whole names (map row_of pieces))))
+    (numbers_are names pieces each) ∙
+    ap (option_and_then (mode_named (numbers_said pieces))) (named (whole names (map row_of pieces)) mode.0 found ∙ sym mode.1)
   where
     named : (rows : List Row) (m : Text) → look (codes "mode") rows ≡ Some (row_at None m) → first_of (codes "mode") rows ≡ Some m
     named rows m h = rw h refl

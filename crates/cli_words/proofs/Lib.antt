@@ -10,4 +10,4 @@ pub mod PlainWords
 pub mod Answered
 pub mod Accepted
 pub mod ModeGiven
-pub mod NodeRange
+pub mod NumberRange

@@ -1,5 +1,5 @@
 -- Where the command refuses nothing, a mode is named: its argument is required, and takes only the names of modes.
-use Rattle.std.proofs.Common.{◌≡◌, ◌∙◌, ◌&&◌, ◌||◌, not, Bool, true, false, ℕ, refl, sym, ap, true≢false, codes, List, [], Option, Some}
+use Rattle.std.proofs.Common.{◌≡◌, ◌∙◌, ◌&&◌, ◌||◌, not, Bool, true, false, refl, sym, subst, ap, true≢false, codes, List, [], ◌∷◌, Option, Some}
 use Rattle.std.proofs.lemmas.Slice.Eq.{bytes_eq-Decides}
 use Rattle.std.specs.Borrow.{Bor}
 use Rattle.std.specs.List.{list_any}
@@ -15,10 +15,11 @@ use Rattle.clap.specs.declared.builder.value_parser.ValueParser.TheVariants as v
 use Rattle.clap.proofs.OnLiterals.{clap_on_literals}
 use Rattle.clap.proofs.WalkLemmas.{list_any-map}
 use Rattle.cli_words.specs.declared.mode.Mode.{Mode}
-use Rattle.cli_words.specs.declared.mode.Mode.TheVariants.{Play, Big, Trace, Check}
-use Rattle.cli_words.specs.Command.{AreModes, command_of, mode_named, mode_of}
+use Rattle.cli_words.specs.declared.mode.Mode.TheVariants.{Play, Big, Trace, Check, Large}
+use Rattle.cli_words.specs.declared.modes.Numbers.{Numbers}
+use Rattle.cli_words.specs.Command.{AreModes, command_of, mode_named, mode_names, mode_of, numbers_of}
 use Rattle.cli_words.proofs.Accepted.{AllGood, Passed, given_passed, level_checked, level_fit}
-use Rattle.cli_words.proofs.Steps.{top}
+use Rattle.cli_words.proofs.Steps.{and, top}
 
 -- the argument of the mode has the names as its parser, and each argument sets its value
 rules_good : (names : Bor (List (Bor Text))) → AllGood (codes "mode") (vp.Names names) (top names).rules
@@ -48,31 +49,42 @@ checked names rows has_subcommand e = go has_subcommand (is_given (codes "mode")
     go true false e = cc
     go false false e = cc
 
-named_by : (nodes seed : ℕ) (name : Text) (play big trace check : Bool) → bytes_eq (codes "play") name ≡ play → bytes_eq (codes "big") name ≡ big →
-    bytes_eq (codes "trace") name ≡ trace → bytes_eq (codes "check") name ≡ check → (play || (big || (trace || (check || false)))) ≡ true →
-    (mode : Mode) × (mode_named nodes seed name ≡ Some mode)
-named_by nodes seed name true big trace check is_play is_big is_trace is_check e =
-    (Play, ap (mode_named nodes seed) (sym ((bytes_eq-Decides (codes "play") name).0 is_play)))
-named_by nodes seed name false true trace check is_play is_big is_trace is_check e =
-    (Big nodes seed, ap (mode_named nodes seed) (sym ((bytes_eq-Decides (codes "big") name).0 is_big)))
-named_by nodes seed name false false true check is_play is_big is_trace is_check e =
-    (Trace, ap (mode_named nodes seed) (sym ((bytes_eq-Decides (codes "trace") name).0 is_trace)))
-named_by nodes seed name false false false true is_play is_big is_trace is_check e =
-    (Check, ap (mode_named nodes seed) (sym ((bytes_eq-Decides (codes "check") name).0 is_check)))
-named_by nodes seed name false false false false is_play is_big is_trace is_check e = absurd (true≢false (sym e))
+-- ---- each name is that of a mode
+
+abbrev IsNamed : Numbers → Text → Type 0
+IsNamed numbers name = (mode : Mode) × (mode_named numbers name ≡ Some mode)
+
+abbrev EachIsNamed : Numbers → List Text → Type 0
+EachIsNamed numbers [] = Unit {0}
+EachIsNamed numbers (name ∷ names) = IsNamed numbers name × EachIsNamed numbers names
+
+each_is_named : (numbers : Numbers) → EachIsNamed numbers mode_names
+each_is_named numbers =
+    and (Play, refl) (and (Big numbers.nodes numbers.seed, refl) (and (Trace, refl) (and (Check, refl)
+    (and (Large numbers.nodes numbers.seed numbers.size, refl) tt))))
+
+one_is_named : (numbers : Numbers) (names : List Text) (name : Text) → EachIsNamed numbers names → list_any (λ (t : Text). bytes_eq t name) names ≡ true →
+    IsNamed numbers name
+one_is_named numbers [] name each e = cc
+one_is_named numbers (t ∷ names) name each e = by (bytes_eq t name) refl e (one_is_named numbers names name each.1)
+  where
+    by : (b : Bool) → bytes_eq t name ≡ b → (b || list_any (λ (s : Text). bytes_eq s name) names) ≡ true →
+        (list_any (λ (s : Text). bytes_eq s name) names ≡ true → IsNamed numbers name) → IsNamed numbers name
+    by true is e later = subst (IsNamed numbers) ((bytes_eq-Decides t name).0 is) each.0
+    by false is e later = later e
 
 -- each name that the parser takes is that of a mode
-accepted_names : (names : Bor (List (Bor Text))) → AreModes names → (nodes seed : ℕ) (name : Text) → accepts false (vp.Names names) name ≡ true →
-    (mode : Mode) × (mode_named nodes seed name ≡ Some mode)
-accepted_names names modes nodes seed name e =
-    named_by nodes seed name _ _ _ _ refl refl refl refl
+accepted_names : (names : Bor (List (Bor Text))) → AreModes names → (numbers : Numbers) (name : Text) → accepts false (vp.Names names) name ≡ true →
+    IsNamed numbers name
+accepted_names names modes numbers name e =
+    one_is_named numbers mode_names name (each_is_named numbers)
     (sym (list_any-map (λ (t : Text). bytes_eq t name) (λ (t : Bor Text). t.now) names.now ∙ ap (list_any (λ (t : Text). bytes_eq t name)) modes) ∙ e)
 
-found_mode : (names : Bor (List (Bor Text))) → AreModes names → (nodes seed : ℕ) (found : Option Text) → Passed (codes "mode") (vp.Names names) found →
-    (mode : Mode) × (option_and_then (mode_named nodes seed) found ≡ Some mode)
-found_mode names modes nodes seed found p =
-    let named = accepted_names names modes nodes seed p.value p.passes in
-    (named.0, ap (option_and_then (mode_named nodes seed)) p.is ∙ named.1)
+found_mode : (names : Bor (List (Bor Text))) → AreModes names → (numbers : Numbers) (found : Option Text) → Passed (codes "mode") (vp.Names names) found →
+    (mode : Mode) × (option_and_then (mode_named numbers) found ≡ Some mode)
+found_mode names modes numbers found p =
+    let named = accepted_names names modes numbers p.value p.passes in
+    (named.0, ap (option_and_then (mode_named numbers)) p.is ∙ named.1)
 
 pub some_mode_of : (names : Bor (List (Bor Text))) → AreModes names → (words : List Text) → fault_of (command_of names) words ≡ [] →
     (mode : Mode) × (mode_of (matches_of (command_of names) words) ≡ Some mode)
@@ -82,4 +94,4 @@ some_mode_of names modes words e =
     (argument_words (command_of names) words) _ _ e tt in
     let given = checked names rows _ (level_checked (top names) (names_of (built (command_of names))) nothing_held
     (argument_words (command_of names) words) _ _ e) in
-    found_mode names modes _ _ (first_of (codes "mode") rows) (given_passed (codes "mode") (vp.Names names) rows fit given)
+    found_mode names modes (numbers_of rows) (first_of (codes "mode") rows) (given_passed (codes "mode") (vp.Names names) rows fit given)

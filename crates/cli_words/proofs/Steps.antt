@@ -1,5 +1,6 @@
 -- The walk over plain words, piece by piece.
-use Rattle.std.proofs.Common.{◌≡◌, ◌∙◌, ap, true, false, refl, List, [], ◌∷◌, ◌++◌, codes, ℕ, Bool, ◌&&◌, Option, Some, None, ◌⊎◌, inl, inr}
+use Rattle.std.proofs.Common.{◌≡◌, ◌∙◌, ap, sym, subst, true, false, refl, List, [], ◌∷◌, ◌++◌, codes, ℕ, Bool, ◌&&◌, ◌||◌, Option, Some, None, inl, inr}
+use Rattle.std.proofs.lemmas.Slice.Eq.{bytes_eq-Decides}
 use Rattle.std.specs.Option.{option_map_or, unwrap_or}
 use Rattle.std.specs.List.{list_any}
 use Rattle.clap.proofs.WalkLemmas.{list_any-map}
@@ -19,8 +20,8 @@ use Rattle.clap.specs.declared.builder.value_parser.ValueParser.TheVariants as v
 use Rattle.clap.specs.declared.parser.matches.ValueSource.TheVariants.{CommandLine}
 use Rattle.clap.proofs.OnLiterals.{clap_on_literals}
 use Rattle.cli_words.specs.declared.limits.TheConstants.{FEWEST_MADE_NODES, LEAST_ROOM, MOST_MADE_NODES, MOST_ROOM, MOST_SIZE}
-use Rattle.cli_words.specs.Command.{AreModes, command_of}
-use Rattle.cli_words.specs.Plain.{Setting, Nodes, Seed, Room, Size, setting_name}
+use Rattle.cli_words.specs.Command.{AreModes, command_of, mode_names}
+use Rattle.cli_words.specs.Plain.{Setting, Nodes, Seed, Room, Size, setting_name, IsAmong}
 use Rattle.cli_words.proofs.Rows.{value_row, used-absent}
 
 -- the command as it is built
@@ -220,55 +221,76 @@ all_settled names rows = record { rows_are = refl; fine = refl }
 
 -- ---- the mode
 
+pub or_true : (b : Bool) → (b || true) ≡ true
+or_true true = refl
+or_true false = refl
+
 and_false : (b : Bool) → (b && false) ≡ false
 and_false true = refl
 and_false false = refl
 
 abbrev pub IsModeName : Text → Type 0
-IsModeName m = (m ≡ codes "play") ⊎ (m ≡ codes "big") ⊎ (m ≡ codes "trace") ⊎ (m ≡ codes "check")
+IsModeName m = IsAmong m mode_names
 
-mode_walked_as : (names : Bor (List (Bor Text))) (m : Text) (held : List Row) (pending : Option (Text × List Text)) → IsModeName m →
+pub and : {P Q : Type 0} → P → Q → P × Q
+and p q = (p, q)
+
+-- no name of a mode is a flag
+abbrev EachIsPlain : List Text → Type 0
+EachIsPlain [] = Unit {0}
+EachIsPlain (t ∷ ts) = IsPlainValue t × EachIsPlain ts
+
+plain : (t : Text) → long_of t ≡ None → short_of t ≡ None → bytes_eq t (45 ∷ 45 ∷ []) ≡ false → IsPlainValue t
+plain t a b d = record { long = a; short = b; dashes = d }
+
+names_are_plain : EachIsPlain mode_names
+unfolding clap_on_literals
+names_are_plain =
+    and (plain _ refl refl refl) (and (plain _ refl refl refl) (and (plain _ refl refl refl) (and (plain _ refl refl refl)
+    (and (plain _ refl refl refl) tt))))
+
+one_is_plain : (ts : List Text) (m : Text) → EachIsPlain ts → IsAmong m ts → IsPlainValue m
+one_is_plain [] m each is = absurd is
+one_is_plain (t ∷ ts) m each (inl e) = subst IsPlainValue (sym e) each.0
+one_is_plain (t ∷ ts) m each (inr is) = one_is_plain ts m each.1 is
+
+mode_walked_as : (names : Bor (List (Bor Text))) (m : Text) (held : List Row) (pending : Option (Text × List Text)) → IsPlainValue m →
     walked (rules names) [] (stand held pending idle 1) m ≡ stand (settled_rows (rules names) pending held) (Some (codes "mode", m ∷ [])) idle 2
 unfolding clap_on_literals
-mode_walked_as names m held pending (inl e) = let h =
-    and_false (option_map_or (λ (q : Text × List Text). bytes_eq q.0 (codes "mode")) pending false) in rw (e, h) refl
-mode_walked_as names m held pending (inr (inl e)) = let h =
-    and_false (option_map_or (λ (q : Text × List Text). bytes_eq q.0 (codes "mode")) pending false) in rw (e, h) refl
-mode_walked_as names m held pending (inr (inr (inl e))) = let h =
-    and_false (option_map_or (λ (q : Text × List Text). bytes_eq q.0 (codes "mode")) pending false) in rw (e, h) refl
-mode_walked_as names m held pending (inr (inr (inr e))) = let h =
-    and_false (option_map_or (λ (q : Text × List Text). bytes_eq q.0 (codes "mode")) pending false) in rw (e, h) refl
+mode_walked_as names m held pending plain =
+    let a = plain.long in let b = plain.short in let d = plain.dashes in
+    let h = and_false (option_map_or (λ (q : Text × List Text). bytes_eq q.0 (codes "mode")) pending false) in rw (d, a, b, h) refl
 
-mode_fault_is : (names : Bor (List (Bor Text))) (m : Text) (held : List Row) (pending : Option (Text × List Text)) → IsModeName m →
+mode_fault_is : (names : Bor (List (Bor Text))) (m : Text) (held : List Row) (pending : Option (Text × List Text)) → IsPlainValue m →
     turn_fault (top names) [] (stand held pending idle 1) m ≡ settle_fault (rules names) false (record { rows = held; pending = pending; skip = 0 })
 unfolding clap_on_literals
-mode_fault_is names m held pending (inl e) = let h =
-    and_false (option_map_or (λ (q : Text × List Text). bytes_eq q.0 (codes "mode")) pending false) in rw (e, h) refl
-mode_fault_is names m held pending (inr (inl e)) = let h =
-    and_false (option_map_or (λ (q : Text × List Text). bytes_eq q.0 (codes "mode")) pending false) in rw (e, h) refl
-mode_fault_is names m held pending (inr (inr (inl e))) = let h =
-    and_false (option_map_or (λ (q : Text × List Text). bytes_eq q.0 (codes "mode")) pending false) in rw (e, h) refl
-mode_fault_is names m held pending (inr (inr (inr e))) = let h =
-    and_false (option_map_or (λ (q : Text × List Text). bytes_eq q.0 (codes "mode")) pending false) in rw (e, h) refl
+mode_fault_is names m held pending plain =
+    let a = plain.long in let b = plain.short in let d = plain.dashes in
+    let h = and_false (option_map_or (λ (q : Text × List Text). bytes_eq q.0 (codes "mode")) pending false) in rw (d, a, b, h) refl
 
 pub mode_step : (names : Bor (List (Bor Text))) (m : Text) (held : List Row) (pending : Option (Text × List Text)) (rows : List Row) → IsModeName m →
     IsSettled names held pending rows →
     walked (rules names) [] (stand held pending idle 1) m ≡ stand rows (Some (codes "mode", m ∷ [])) idle 2
 mode_step names m held pending rows is at =
-    mode_walked_as names m held pending is ∙ ap (λ (rs : List Row). stand rs (Some (codes "mode", m ∷ [])) idle 2) at.rows_are
+    mode_walked_as names m held pending (one_is_plain mode_names m names_are_plain is) ∙
+    ap (λ (rs : List Row). stand rs (Some (codes "mode", m ∷ [])) idle 2) at.rows_are
 
 pub mode_turn : (names : Bor (List (Bor Text))) (m : Text) (held : List Row) (pending : Option (Text × List Text)) (rows : List Row) → IsModeName m →
     IsSettled names held pending rows →
     turn_fault (top names) [] (stand held pending idle 1) m ≡ []
-mode_turn names m held pending rows is at = mode_fault_is names m held pending is ∙ at.fine
+mode_turn names m held pending rows is at = mode_fault_is names m held pending (one_is_plain mode_names m names_are_plain is) ∙ at.fine
+
+-- a test for a text that is among others
+found_among : (ts : List Text) (m : Text) → IsAmong m ts → list_any (λ (s : Text). bytes_eq s m) ts ≡ true
+found_among [] m is = absurd is
+found_among (t ∷ ts) m (inl e) = by (bytes_eq t m) ((bytes_eq-Decides t m).1 (sym e))
+  where
+    by : (b : Bool) → b ≡ true → (b || list_any (λ (s : Text). bytes_eq s m) ts) ≡ true
+    by b e = rw e refl
+found_among (t ∷ ts) m (inr is) = ap (λ (b : Bool). bytes_eq t m || b) (found_among ts m is) ∙ or_true (bytes_eq t m)
 
 -- what MODE takes, by the texts alone
 pub mode_accepted : (names : Bor (List (Bor Text))) (m : Text) → AreModes names → IsModeName m → accepts false (vp.Names names) m ≡ true
-mode_accepted names m modes (inl e) =
-    list_any-map (λ (s : Text). bytes_eq s m) (λ (s : Bor Text). s.now) names.now ∙ ap (list_any (λ (s : Text). bytes_eq s m)) modes ∙ rw e refl
-mode_accepted names m modes (inr (inl e)) =
-    list_any-map (λ (s : Text). bytes_eq s m) (λ (s : Bor Text). s.now) names.now ∙ ap (list_any (λ (s : Text). bytes_eq s m)) modes ∙ rw e refl
-mode_accepted names m modes (inr (inr (inl e))) =
-    list_any-map (λ (s : Text). bytes_eq s m) (λ (s : Bor Text). s.now) names.now ∙ ap (list_any (λ (s : Text). bytes_eq s m)) modes ∙ rw e refl
-mode_accepted names m modes (inr (inr (inr e))) =
-    list_any-map (λ (s : Text). bytes_eq s m) (λ (s : Bor Text). s.now) names.now ∙ ap (list_any (λ (s : Text). bytes_eq s m)) modes ∙ rw e refl
+mode_accepted names m modes is =
+    list_any-map (λ (s : Text). bytes_eq s m) (λ (s : Bor Text). s.now) names.now ∙ ap (list_any (λ (s : Text). bytes_eq s m)) modes ∙
+    found_among mode_names m is

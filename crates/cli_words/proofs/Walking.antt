@@ -1,5 +1,5 @@
 -- The walk over plain words, from the first to the last.
-use Rattle.std.proofs.Common.{◌≡◌, ◌<◌, ◌^◌, ℕ, ◌∙◌, ap, sym, true, false, refl, List, [], ◌∷◌, ◌++◌, codes, map, Bool, ◌||◌, Option, Some, None, subst}
+use Rattle.std.proofs.Common.{◌≡◌, ◌<◌, ◌^◌, ℕ, ◌∙◌, ap, sym, true, false, refl, List, [], ◌∷◌, ◌++◌, codes, map, Option, Some, None, subst}
 use Rattle.std.proofs.Common.{decimal, append_assoc, append-nil, arith}
 use Rattle.std.specs.Borrow.{Bor}
 use Rattle.std.specs.List.{flat_map}
@@ -13,7 +13,8 @@ use Rattle.cli_words.specs.declared.limits.TheConstants.{FEWEST_MADE_NODES, LEAS
 use Rattle.cli_words.specs.Command.{AreModes}
 use Rattle.cli_words.specs.Plain.{Setting, Nodes, Seed, Room, Size, setting_name, InRange, Piece, Names, Apart, Joined, words_of, IsPiece, subject_of}
 use Rattle.cli_words.proofs.Rows.{neither, has_row-more}
-use Rattle.cli_words.proofs.Steps.{top, rules, Slot, parser_at, row_at, stand, IsSettled, joined_step, joined_turn, option_walked, option_turn, value_walked}
+use Rattle.cli_words.proofs.Steps.{or_true, top, rules, Slot, parser_at, row_at, stand, IsSettled, joined_step, joined_turn, option_walked, option_turn}
+use Rattle.cli_words.proofs.Steps.{value_walked}
 use Rattle.cli_words.proofs.Steps.{value_turn, pending_settled, all_settled, mode_step, mode_turn, mode_accepted}
 use Rattle.cli_words.proofs.Numerals.{decimal_is_plain, decimal_signed, decimal_unsigned}
 
@@ -79,12 +80,8 @@ further names from next word words rows step turn g = record {
   settled = g.settled;
 }
 
-or_true : (b : Bool) → (b || true) ≡ true
-or_true true = refl
-or_true false = refl
-
 -- a row of an option is none of the mode
-option_is_no_mode : (s : Setting) → bytes_eq (setting_name s) (codes "mode") ≡ false
+pub option_is_no_mode : (s : Setting) → bytes_eq (setting_name s) (codes "mode") ≡ false
 option_is_no_mode Nodes = refl
 option_is_no_mode Seed = refl
 option_is_no_mode Room = refl

@@ -15,17 +15,18 @@ use Rattle.clap.specs.declared.builder.value_parser.ValueParser.{ValueParser}
 use Rattle.clap.specs.declared.builder.value_parser.ValueParser.TheVariants as vp
 use Rattle.clap.specs.declared.error.Error.{Error}
 use Rattle.clap.specs.declared.error.kind.ErrorKind.TheVariants as kind
-use Rattle.cli_words.specs.declared.limits.TheConstants.{DEFAULT_NODES, DEFAULT_NODES_TEXT, DEFAULT_SEED, DEFAULT_SEED_TEXT, DEFAULT_ROOM_TEXT}
-use Rattle.cli_words.specs.declared.limits.TheConstants.{DEFAULT_SIZE_TEXT, FEWEST_MADE_NODES, LEAST_ROOM}
+use Rattle.cli_words.specs.declared.limits.TheConstants.{DEFAULT_NODES, DEFAULT_NODES_TEXT, DEFAULT_SEED, DEFAULT_SEED_TEXT, DEFAULT_ROOM, DEFAULT_ROOM_TEXT}
+use Rattle.cli_words.specs.declared.limits.TheConstants.{DEFAULT_SIZE, DEFAULT_SIZE_TEXT, FEWEST_MADE_NODES, LEAST_ROOM}
 use Rattle.cli_words.specs.declared.limits.TheConstants.{MOST_MADE_NODES, MOST_ROOM, MOST_SIZE}
 use Rattle.cli_words.specs.declared.mode.Mode.{Mode}
-use Rattle.cli_words.specs.declared.mode.Mode.TheVariants.{Play, Big, Trace, Check}
+use Rattle.cli_words.specs.declared.mode.Mode.TheVariants.{Play, Big, Trace, Check, Large}
 use Rattle.cli_words.specs.declared.mode.WordFault.{WordFault}
 use Rattle.cli_words.specs.declared.mode.WordFault.TheVariants.{Usage}
+use Rattle.cli_words.specs.declared.modes.Numbers.{Numbers}
 
 -- the texts of MODE
 abbrev pub mode_names : List Text
-mode_names = codes "play" ∷ codes "big" ∷ codes "trace" ∷ codes "check" ∷ []
+mode_names = codes "play" ∷ codes "big" ∷ codes "trace" ∷ codes "check" ∷ codes "large" ∷ []
 
 -- the same, wherever they are kept
 abbrev pub AreModes : Bor (List (Bor Text)) → Type 0
@@ -71,25 +72,40 @@ number_in most otherwise t = if is_unsigned_in 0 most t then digits_value 10 (wi
 abbrev pub number_of : Text → ℕ → ℕ → List Row → ℕ
 number_of id most otherwise rows = option_map_or (number_in most otherwise) (one_of id rows) otherwise
 
--- the mode of this name, with these numbers if it has any
-abbrev pub mode_named : ℕ → ℕ → Text → Option Mode
-mode_named nodes seed name =
+-- the mode of this name, with those of these numbers that it has
+abbrev pub mode_named : Numbers → Text → Option Mode
+mode_named numbers name =
     if bytes_eq name (codes "play") then Some Play
-    else (if bytes_eq name (codes "big") then Some (Big nodes seed)
-    else (if bytes_eq name (codes "trace") then Some Trace else (if bytes_eq name (codes "check") then Some Check else None)))
+    else (if bytes_eq name (codes "big") then Some (Big numbers.nodes numbers.seed)
+    else (if bytes_eq name (codes "trace") then Some Trace
+    else (if bytes_eq name (codes "check") then Some Check
+    else (if bytes_eq name (codes "large") then Some (Large numbers.nodes numbers.seed numbers.size) else None))))
 
--- the mode of what a reading found
+-- the numbers of what a reading found
+abbrev pub numbers_of : List Row → Numbers
+numbers_of rows =
+    record {
+      nodes = number_of (codes "nodes") 4294967295 DEFAULT_NODES rows;
+      seed = number_of (codes "seed") 18446744073709551615 DEFAULT_SEED rows;
+      room = number_of (codes "room") 4294967295 DEFAULT_ROOM rows;
+      size = number_of (codes "size") 4294967295 DEFAULT_SIZE rows;
+    }
+
+-- and its mode
 abbrev pub mode_of : List Row → Option Mode
-mode_of rows =
-    option_and_then (mode_named (number_of (codes "nodes") 4294967295 DEFAULT_NODES rows) (number_of (codes "seed") 18446744073709551615 DEFAULT_SEED rows))
-    (first_of (codes "mode") rows)
+mode_of rows = option_and_then (mode_named (numbers_of rows)) (first_of (codes "mode") rows)
 
--- the nodes of a made scenario
-abbrev pub HasNodesInRange : Mode → Type 0
-HasNodesInRange Play = Unit {0}
-HasNodesInRange (Big nodes seed) = (FEWEST_MADE_NODES ≤ nodes) × (nodes ≤ MOST_MADE_NODES)
-HasNodesInRange Trace = Unit {0}
-HasNodesInRange Check = Unit {0}
+-- so many nodes can be made
+abbrev pub AreNodesInRange : ℕ → Type 0
+AreNodesInRange nodes = (FEWEST_MADE_NODES ≤ nodes) × (nodes ≤ MOST_MADE_NODES)
+
+-- the numbers of a mode are such as its options take
+abbrev pub HasNumbersInRange : Mode → Type 0
+HasNumbersInRange Play = Unit {0}
+HasNumbersInRange (Big nodes seed) = AreNodesInRange nodes
+HasNumbersInRange Trace = Unit {0}
+HasNumbersInRange Check = Unit {0}
+HasNumbersInRange (Large nodes seed size) = AreNodesInRange nodes × (size ≤ MOST_SIZE)
 
 -- What a reading answers: Usage exactly where the command's reading is refused for another cause than memory.
 pub record Reads (names : Bor (List (Bor Text))) (words : List Text) (result : Result Mode WordFault) : Type 0 where

@@ -5,9 +5,10 @@ use Rattle.std.specs.List.{flat_map}
 use Rattle.std.specs.Option.{option_and_then}
 use Rattle.std.specs.Str.{bytes_eq}
 use Rattle.clap.specs.Walk.{Text}
-use Rattle.cli_words.specs.declared.limits.TheConstants.{DEFAULT_NODES, DEFAULT_SEED, FEWEST_MADE_NODES, LEAST_ROOM, MOST_MADE_NODES, MOST_ROOM, MOST_SIZE}
+use Rattle.cli_words.specs.declared.limits.TheConstants.{DEFAULT_NODES, DEFAULT_SEED, DEFAULT_ROOM, DEFAULT_SIZE, LEAST_ROOM, MOST_ROOM, MOST_SIZE}
 use Rattle.cli_words.specs.declared.mode.Mode.{Mode}
-use Rattle.cli_words.specs.Command.{mode_named}
+use Rattle.cli_words.specs.declared.modes.Numbers.{Numbers}
+use Rattle.cli_words.specs.Command.{AreNodesInRange, mode_named, mode_names}
 
 -- what an option sets
 pub data Setting : Type 0 where
@@ -23,7 +24,7 @@ setting_name Room = codes "room"
 setting_name Size = codes "size"
 
 abbrev pub InRange : Setting → ℕ → Type 0
-InRange Nodes n = (FEWEST_MADE_NODES ≤ n) × (n ≤ MOST_MADE_NODES)
+InRange Nodes n = AreNodesInRange n
 InRange Seed n = n < 2 ^ 64
 InRange Room n = (LEAST_ROOM ≤ n) × (n ≤ MOST_ROOM)
 InRange Size n = n ≤ MOST_SIZE
@@ -40,8 +41,13 @@ words_of (Names mode) = mode ∷ []
 words_of (Apart setting number) = (codes "--" ++ setting_name setting) ∷ decimal number ∷ []
 words_of (Joined setting number) = (codes "--" ++ (setting_name setting ++ (codes "=" ++ decimal number))) ∷ []
 
+-- a text is among these
+abbrev pub IsAmong : Text → List Text → Type 0
+IsAmong t [] = ⊥
+IsAmong t (s ∷ ss) = (t ≡ s) ⊎ IsAmong t ss
+
 abbrev pub IsPiece : Piece → Type 0
-IsPiece (Names mode) = (mode ≡ codes "play") ⊎ (mode ≡ codes "big") ⊎ (mode ≡ codes "trace") ⊎ (mode ≡ codes "check")
+IsPiece (Names mode) = IsAmong mode mode_names
 IsPiece (Apart setting number) = InRange setting number
 IsPiece (Joined setting number) = InRange setting number
 
@@ -66,11 +72,19 @@ number_said name otherwise (Apart setting number ∷ pieces) =
 number_said name otherwise (Joined setting number ∷ pieces) =
     if bytes_eq (setting_name setting) name then number else number_said name otherwise pieces
 
--- the mode that is named, with its numbers or those that stand for them
+-- the numbers that are set, or those that stand for them
+abbrev pub numbers_said : List Piece → Numbers
+numbers_said pieces =
+    record {
+      nodes = number_said (codes "nodes") DEFAULT_NODES pieces;
+      seed = number_said (codes "seed") DEFAULT_SEED pieces;
+      room = number_said (codes "room") DEFAULT_ROOM pieces;
+      size = number_said (codes "size") DEFAULT_SIZE pieces;
+    }
+
+-- the mode that is named, with its numbers
 abbrev pub mode_by : List Piece → Option Mode
-mode_by pieces =
-    option_and_then (mode_named (number_said (codes "nodes") DEFAULT_NODES pieces) (number_said (codes "seed") DEFAULT_SEED pieces))
-    (mode_said pieces)
+mode_by pieces = option_and_then (mode_named (numbers_said pieces)) (mode_said pieces)
 
 pub record ArePlain (pieces : List Piece) (words : List Text) : Type 0 where
   pub first : Text

@@ -50,7 +50,7 @@ fn seed_arg<'a>(alloc: Global) -> Arg<'a>
         .default_value(DEFAULT_SEED_TEXT)
 }
 
-/// How many files an access point keeps. It has no effect in the modes that are built.
+/// How many files an access point remembers. It has no effect in the modes that are built.
 fn room_arg<'a>(alloc: Global) -> Arg<'a>
     ensures rule { rule_of result ≡ room_rule }
     ensures local { result.global ≡ false }
@@ -62,7 +62,7 @@ fn room_arg<'a>(alloc: Global) -> Arg<'a>
         .default_value(DEFAULT_ROOM_TEXT)
 }
 
-/// How many bytes a large file has. It has no effect in the modes that are built.
+/// How many bytes a large file has.
 fn size_arg<'a>(alloc: Global) -> Arg<'a>
     ensures rule { rule_of result ≡ size_rule }
     ensures local { result.global ≡ false }

@@ -6,17 +6,30 @@ ghost use Rattle.cli_words.specs.Command.{mode_named};
 use crate::mode::Mode;
 
 /// The names of the modes, each of which [`mode_named`] knows.
-pub(crate) static MODES: [&str; 4] = ["play", "big", "trace", "check"];
+pub(crate) static MODES: [&str; 5] = ["play", "big", "trace", "check", "large"];
 
-/// The mode of this name, with these numbers if it has any.
-pub(crate) fn mode_named(name: &str, nodes: u32, seed: u64) -> Option<Mode>
-    ensures { result ≡ mode_named nodes seed name.entry.now }
+/// The numbers of the options, given or not.
+#[derive(Clone, Copy)]
+pub(crate) struct Numbers {
+    pub(crate) nodes: u32,
+    pub(crate) seed: u64,
+    pub(crate) room: u32,
+    pub(crate) size: u32,
+}
+
+/// The mode of this name, with those of these numbers that it has.
+pub(crate) fn mode_named(name: &str, numbers: Numbers) -> Option<Mode>
+    ensures { result ≡ mode_named numbers name.entry.now }
 {
+    let Numbers {
+        nodes, seed, size, ..
+    } = numbers;
     match name {
         "play" => Some(Mode::Play),
         "big" => Some(Mode::Big { nodes, seed }),
         "trace" => Some(Mode::Trace),
         "check" => Some(Mode::Check),
+        "large" => Some(Mode::Large { nodes, seed, size }),
         _ => None,
     }
 }

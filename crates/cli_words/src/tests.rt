@@ -41,8 +41,31 @@ fn reads_plain_words(rt: HostRuntime) -> Result<(), Fail> {
 }
 
 #[test]
+fn reads_the_size(rt: HostRuntime) -> Result<(), Fail> {
+    let large = Mode::Large {
+        nodes: 12,
+        seed: 7,
+        size: 10_000,
+    };
+    assert_eq!(rt; read(&rt, &["pastry", "large"])?, Ok(large));
+    let empty = Mode::Large {
+        nodes: 256,
+        seed: 0,
+        size: 0,
+    };
+    assert_eq!(rt;
+        read(
+            &rt,
+            &["p", "--size=0", "--nodes", "256", "large", "--seed=0"]
+        )?,
+        Ok(empty)
+    );
+    Ok(())
+}
+
+#[test]
 fn refuses_other_words(rt: HostRuntime) -> Result<(), Fail> {
-    let refused: [&[&str]; 12] = [
+    let refused: [&[&str]; 15] = [
         &[],
         &["pastry"],
         &["pastry", "run"],
@@ -53,6 +76,9 @@ fn refuses_other_words(rt: HostRuntime) -> Result<(), Fail> {
         &["pastry", "big", "--nodes", "257"],
         &["pastry", "big", "--nodes=9", "--nodes=9"],
         &["pastry", "big", "--seed", "18446744073709551616"],
+        &["pastry", "play", "--room", "0"],
+        &["pastry", "play", "--room=4097"],
+        &["pastry", "large", "--size", "835585"],
         &["pastry", "play", "--help"],
         &["pastry", "play", "--nodes"],
     ];

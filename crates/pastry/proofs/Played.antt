@@ -3,10 +3,15 @@ use Rattle.std.proofs.Common.{◌≡◌, ℕ, List, Option, Some, refl, subst}
 use Rattle.overlay_rules.specs.declared.entry.Record.{Record}
 use Rattle.scenario_reader.specs.Plain.{PlainScenario}
 use Rattle.schedule.specs.Made.{made}
+use Rattle.delivery_report.specs.Report.{closings_of}
+use Rattle.delivery_report.specs.Texts.{commands_of}
+use Rattle.fragments.specs.Large.{large}
+use Rattle.file_laws.specs.Given.{IsGiven}
+use Rattle.pastry.specs.Large.{IsPlayedLarge}
 use Rattle.pastry.specs.Played.{HasTold, IsPlayed}
 use Rattle.pastry.specs.Prepared.{Prepares}
 use Rattle.pastry.specs.Outputs.{output_text}
-use Rattle.pastry.specs.Runs.{HasPlayedMade}
+use Rattle.pastry.specs.Runs.{HasPlayedLarge, HasPlayedMade}
 use Rattle.pastry.specs.declared.output.Output.TheVariants as output
 
 -- what was prepared was told, and what became of its text became of the scenario's
@@ -33,3 +38,21 @@ HasPlayedMade-from_made source nodes seed W played run = record {
   same = run.same;
   written = run.written;
 }
+
+-- and of a large file
+pub HasPlayedLarge-from_made : {S : Type 0} (source : S) (nodes seed size : ℕ) (W : List ℕ → Type 0) (played : Option Record) →
+    HasTold (λ s. s ≡ large nodes seed size) (IsPlayedLarge seed size) (output_text (output.Large size)) W played →
+    HasPlayedLarge source source nodes seed size W played
+HasPlayedLarge-from_made source nodes seed size W played run = record {
+  scenario = run.scenario;
+  record_of = run.record_of;
+  from = (run.from, refl);
+  is = run.is;
+  same = run.same;
+  written = run.written;
+}
+
+-- what was prepared of a large scenario, with what its closings show
+pub is_given : (seed size : ℕ) (s : PlainScenario) (r : Record) (text : List ℕ) → Prepares IsPlayed (output_text (output.Large size)) s r text →
+    IsGiven seed size (closings_of (commands_of s) r.entries) → Prepares (IsPlayedLarge seed size) (output_text (output.Large size)) s r text
+is_given seed size s r text prepared given = record { is = record { played = prepared.is; given = given }; is_text = prepared.is_text }

@@ -4,7 +4,7 @@ use Rattle.scenario_reader.specs.declared.fault.LineFault.{LineFault}
 use Rattle.scenario_reader.specs.Grammar.{scenario_of}
 use Rattle.scenario_reader.specs.Plain.{PlainScenario}
 use Rattle.cli_words.specs.declared.mode.Mode.{Mode}
-use Rattle.cli_words.specs.declared.mode.Mode.TheVariants.{Play, Big, Trace, Check}
+use Rattle.cli_words.specs.declared.mode.Mode.TheVariants.{Play, Big, Trace, Check, Large}
 use Rattle.trace_text.specs.declared.fault.TraceFault.{TraceFault}
 use Rattle.trace_text.specs.Traces.{IsTraceOf, PlainTrace, setting_of}
 use Rattle.trace_text.specs.declared.limits.TheConstants.{MOST_TRACE_BYTES}
@@ -39,9 +39,10 @@ pub record IsJudgedRightly (left : Option (List ℕ)) (answered : Option TopFaul
       IsVerdict (setting_of t.nodes t.founder) t.entries v → DoneOr answered (fault_of v)
   pub refused : (xs : List ℕ) (f : TraceFault) → left ≡ Some xs → IsFaultOf (take TRACE_LIMIT xs) f → DoneOr answered (Some (fault.Trace f))
 
--- what is due in a mode where no device fails: what the source has is answered; `big` is done, whatever it has
+-- what is due in a mode where no device fails: what the source has is answered; `big` and `large` are done, whatever it has
 abbrev pub IsDue : Mode → Type 0 → Type 0 → Option (List ℕ) → Option TopFault → Type 0
 IsDue Play source_fails sink_fails left answered = ¬ source_fails → ¬ sink_fails → IsAnswered left answered
 IsDue (Big nodes seed) source_fails sink_fails left answered = ¬ sink_fails → DoneOr answered None
 IsDue Trace source_fails sink_fails left answered = ¬ source_fails → ¬ sink_fails → IsAnswered left answered
 IsDue Check source_fails sink_fails left answered = ¬ source_fails → ¬ sink_fails → IsJudgedRightly left answered
+IsDue (Large nodes seed size) source_fails sink_fails left answered = ¬ sink_fails → DoneOr answered None

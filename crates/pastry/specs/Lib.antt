@@ -4,6 +4,7 @@ pub mod Due
 pub mod Faults
 pub mod Headline
 pub mod Judged
+pub mod Large
 pub mod Outputs
 pub mod Played
 pub mod Prepared

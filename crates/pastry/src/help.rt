@@ -22,11 +22,13 @@ usage: pastry play < SCENARIO
        pastry big [--nodes N] [--seed N]
        pastry trace < SCENARIO
        pastry check < TRACE
+       pastry large [--nodes N] [--seed N] [--size N]
 
   play        plays the scenario on standard input, and writes its report
   big         plays a scenario that it makes itself, and writes its summary and a tally
   trace       plays the scenario on standard input, and writes all that happened, as docs/TRACES.md has it
   check       reads what trace wrote, or anybody, and writes whether that could have happened
+  large       stores a large file in fragments and fetches it again, in a scenario that it makes, and writes what came of it
 ";
 
 const STATUSES: &str = "\
@@ -44,10 +46,10 @@ impl fmt::Display for Help {
         write!(
             f,
             "{MODES}
-  --nodes N   how many nodes big makes: {FEWEST_MADE_NODES} to {MOST_MADE_NODES}, {DEFAULT_NODES} if not given
-  --seed N    the number from which big makes its scenario: 0 to {most}, {DEFAULT_SEED} if not given
+  --nodes N   how many nodes big and large make: {FEWEST_MADE_NODES} to {MOST_MADE_NODES}, {DEFAULT_NODES} if not given
+  --seed N    the number from which they make their scenarios: 0 to {most}, {DEFAULT_SEED} if not given
   --room N    {LEAST_ROOM} to {MOST_ROOM}, {DEFAULT_ROOM} if not given; it has no effect in these modes
-  --size N    0 to {MOST_SIZE}, {DEFAULT_SIZE} if not given; it has no effect in these modes
+  --size N    how many bytes the file of large has: 0 to {MOST_SIZE}, {DEFAULT_SIZE} if not given
 
 {STATUSES}"
         )

@@ -4,6 +4,7 @@
 mod cause;
 mod checking;
 mod help;
+mod large;
 mod laws;
 mod message;
 mod modes;
@@ -20,9 +21,11 @@ mod verdict;
 mod watched;
 
 use cli_words::{Mode, read_words};
+use fragments::large_scenario;
 use outcome::TopFault;
 use outside::{FromReader, ToWriter};
 use progress::Progress;
+use scenario_reader::Scenario;
 use schedule::make_scenario;
 use std::alloc::Global;
 use std::process::ExitCode;
@@ -55,15 +58,22 @@ fn end_without_words(rt: &HostRuntime, error: &io::Error) -> ExitCode {
     }
 }
 
-/// Tells progress which scenario `big` makes.
+/// The scenario that `big` or `large` makes; None in another mode, or if memory for it is refused.
+fn scenario_made(alloc: Global, words: &[RcStr]) -> Option<Scenario> {
+    match read_words(alloc, words) {
+        Ok(Mode::Big { nodes, seed }) => make_scenario(alloc, nodes, seed).ok(),
+        Ok(Mode::Large { nodes, seed, size }) => large_scenario(alloc, nodes, seed, size).ok(),
+        _ => None,
+    }
+}
+
+/// Tells progress which scenario is made, if one is.
 fn expect_made(alloc: Global, words: &[RcStr], progress: &Progress<'_>) {
     if !progress.is_told() {
         return;
     }
-    if let Ok(Mode::Big { nodes, seed }) = read_words(alloc, words) {
-        if let Ok(scenario) = make_scenario(alloc, nodes, seed) {
-            progress.expect(&scenario);
-        }
+    if let Some(scenario) = scenario_made(alloc, words) {
+        progress.expect(&scenario);
     }
 }
 

@@ -5,7 +5,7 @@ ghost use Rattle.outside.specs.Rose.{Rose};
 ghost use Rattle.scenario_reader.specs.declared.fault.LineFault.{LineFault as Fault};
 ghost use Rattle.trace_text.specs.declared.fault.TraceFault.{TraceFault as NoTrace};
 ghost use Rattle.trace_check.specs.declared.verdict.Part.{Part as WrongPart};
-ghost use Rattle.cli_words.specs.Command.{HasNodesInRange};
+ghost use Rattle.cli_words.specs.Command.{HasNumbersInRange};
 ghost use Rattle.pastry.specs.Checked.{HasFoundWrong, IsNoTrace};
 ghost use Rattle.pastry.specs.Due.{IsDue};
 ghost use Rattle.pastry.specs.Faults.{status_of, HasWritten};
@@ -14,6 +14,7 @@ ghost use Rattle.pastry.specs.Runs.{IsAtItsText, IsDone, ReadsInput, ReadsScenar
 ghost use Rattle.pastry.specs.Written.{IsTaken, IsBrokenOff, WasReadByCalls};
 
 use crate::checking::check_read;
+use crate::large::play_large;
 use crate::outcome::{Outcome, TopFault};
 use crate::output::Output;
 use crate::playing::{play_made, play_read};
@@ -29,7 +30,7 @@ pub(crate) fn run_mode<S: Source, K: Sink, T: Turnstile>(
     sink: &mut K,
     turnstile: &T,
 ) -> Outcome
-    requires { HasNodesInRange mode }
+    requires { HasNumbersInRange mode }
     ensures status { result.status ≡ status_of result.fault }
     ensures usage { result.fault ≢ Some TopFault.Usage }
     ensures done { result.fault ≡ None → IsDone mode S.left source.old source.new (IsTaken K.takes K.taken sink.old sink.new) result.played }
@@ -52,5 +53,6 @@ pub(crate) fn run_mode<S: Source, K: Sink, T: Turnstile>(
         Mode::Big { nodes, seed } => play_made(alloc, nodes, seed, sink, turnstile),
         Mode::Trace => play_read(alloc, Output::Trace, source, sink, turnstile),
         Mode::Check => check_read(alloc, source, sink),
+        Mode::Large { nodes, seed, size } => play_large(alloc, nodes, seed, size, sink, turnstile),
     }
 }

@@ -6,6 +6,7 @@ ghost use Rattle.schedule.specs.Schedule.{setting_of};
 ghost use Rattle.pastry.specs.Outputs.{output_text, played_trace};
 
 use delivery_report::{report, summary};
+use large_report::report_large;
 use overlay_rules::Record;
 use play_engine::ids_of;
 use ring_math::OutOfMemory;
@@ -23,6 +24,8 @@ pub enum Output {
     Summary,
     /// The nodes, the founder and the record itself.
     Trace,
+    /// The summary line, and what became of a large file of so many bytes.
+    Large { size: u32 },
 }
 
 /// The text of a scenario and its record.
@@ -39,6 +42,7 @@ pub(crate) fn output_text(
         Output::Report => report(alloc, scenario, steps),
         Output::Summary => summary(alloc, scenario, steps),
         Output::Trace => played_trace(alloc, scenario, steps),
+        Output::Large { size } => report_large(alloc, scenario, size, steps),
     }
 }
 

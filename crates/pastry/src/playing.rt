@@ -48,7 +48,7 @@ pub(crate) struct Prepared {
 }
 
 /// Plays a scenario, and writes its text into memory.
-fn prepare<T: Turnstile>(
+pub(crate) fn prepare<T: Turnstile>(
     alloc: Global,
     output: Output,
     scenario: &Scenario,

@@ -1,5 +1,5 @@
 use Rattle.cli_words.proofs.Answered.{plain_answer}
-use Rattle.cli_words.proofs.NodeRange.{read_in_range}
+use Rattle.cli_words.proofs.NumberRange.{read_in_range}
 use Rattle.cli_words.proofs.read.read_words.Goals as goal
 
 pub returns-clause-plain : goal.returns-clause-plain

@@ -1,8 +1,8 @@
-use Rattle.cli_words.specs.declared.mode.Mode.TheVariants.{Play, Big, Trace, Check}
+use Rattle.cli_words.specs.declared.mode.Mode.TheVariants.{Play, Big, Trace, Check, Large}
 use Rattle.pastry.proofs.Endings.{answers}
 use Rattle.pastry.proofs.Judging.{judges, judged_legal, judged_wrong}
 use Rattle.pastry.proofs.InMode.{at_its_text_in, done_in, due_in}
-use Rattle.pastry.proofs.Played.{HasPlayedMade-from_made}
+use Rattle.pastry.proofs.Played.{HasPlayedLarge-from_made, HasPlayedMade-from_made}
 use Rattle.pastry.proofs.modes.run_mode.Goals as goal
 
 pub returns-in-Play-clause-due : goal.returns-in-Play-clause-due
@@ -43,3 +43,13 @@ returns-in-Check-clause-due g c =
       unread = c.check_read.ensures.unread;
       unwritten = c.check_read.ensures.unwritten;
     }) source sink)
+
+pub returns-in-Large-clause-done : goal.returns-in-Large-clause-done
+returns-in-Large-clause-done g c = λ e.
+    done_in _ (Large c.in-Large.nodes c.in-Large.seed c.in-Large.size) c.in-Large.is _ _ _ _ _
+    (HasPlayedLarge-from_made _ _ _ _ _ _ (c.play_large.ensures.done e))
+
+pub returns-in-Large-clause-broken_off : goal.returns-in-Large-clause-broken_off
+returns-in-Large-clause-broken_off g c = λ e.
+    at_its_text_in _ (Large c.in-Large.nodes c.in-Large.seed c.in-Large.size) c.in-Large.is _ _ _ _ _
+    (HasPlayedLarge-from_made _ _ _ _ _ _ (c.play_large.ensures.broken_off e))
