@@ -16,6 +16,8 @@ pub enum Mode {
     /// Plays the scenario that is made of so many nodes, 2 to 256, a seed, and a large file of so many bytes, at most 835,584,
     /// and writes what became of the file.
     Large { nodes: u32, seed: u64, size: u32 },
+    /// Reads a scenario and writes a line for each entry, message and note of its play, for people.
+    Messages,
 }
 
 /// Why words were not read.

@@ -6,7 +6,7 @@ ghost use Rattle.cli_words.specs.Command.{mode_named};
 use crate::mode::Mode;
 
 /// The names of the modes, each of which [`mode_named`] knows.
-pub(crate) static MODES: [&str; 5] = ["play", "big", "trace", "check", "large"];
+pub(crate) static MODES: [&str; 6] = ["play", "big", "trace", "check", "large", "messages"];
 
 /// The numbers of the options, given or not.
 #[derive(Clone, Copy)]
@@ -30,6 +30,7 @@ pub(crate) fn mode_named(name: &str, numbers: Numbers) -> Option<Mode>
         "trace" => Some(Mode::Trace),
         "check" => Some(Mode::Check),
         "large" => Some(Mode::Large { nodes, seed, size }),
+        "messages" => Some(Mode::Messages),
         _ => None,
     }
 }

@@ -18,6 +18,7 @@ fn reads_plain_words(rt: HostRuntime) -> Result<(), Fail> {
     assert_eq!(rt; read(&rt, &["pastry", "play"])?, Ok(Mode::Play));
     assert_eq!(rt; read(&rt, &["pastry", "trace"])?, Ok(Mode::Trace));
     assert_eq!(rt; read(&rt, &["pastry", "check"])?, Ok(Mode::Check));
+    assert_eq!(rt; read(&rt, &["pastry", "messages"])?, Ok(Mode::Messages));
     assert_eq!(rt;
         read(&rt, &["", "big"])?,
         Ok(Mode::Big { nodes: 12, seed: 7 })

@@ -1,7 +1,6 @@
 -- How a run that reads a scenario can end: by its causes, what a source has is answered; and a scenario that is made is played.
 use Rattle.std.proofs.Common.{◌≡◌, ℕ, List, take, Option, Some, None, IfSome, Result, Ok, Err, refl, subst, ap, ◌∙◌, inl, inr, arith}
 use Rattle.std.proofs.lemmas.List.{take_all}
-use Rattle.outside.specs.Rose.{Rose}
 use Rattle.scenario_reader.specs.declared.fault.LineFault.{LineFault}
 use Rattle.scenario_reader.specs.Plain.{PlainScenario}
 use Rattle.scenario_reader.specs.Grammar.{scenario_of}

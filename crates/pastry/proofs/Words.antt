@@ -1,5 +1,5 @@
 -- What the words ask for, by what reading them answers.
-use Rattle.std.proofs.Common.{◌≡◌, ◌∙◌, ◌⊎◌, inl, inr, subst, sym, ℕ, List, Option, Some, Result, Ok, Err, refl}
+use Rattle.std.proofs.Common.{◌≡◌, ◌∙◌, ◌⊎◌, inl, inr, subst, sym, List, Option, Some, Result, Ok, Err, refl}
 use Rattle.std.specs.Borrow.{Bor}
 use Rattle.std.specs.Prelude.{IsOkAnd}
 use Rattle.clap.specs.Walk.{Text}

@@ -1,18 +1,17 @@
 -- What a run of the program did: what it read, played and wrote, in the mode that the words ask for.
 use Rattle.std.specs.Prelude.{◌≡◌, ℕ, List, Option}
 use Rattle.overlay_rules.specs.declared.entry.Record.{Record}
-use Rattle.scenario_reader.specs.Plain.{PlainScenario}
 use Rattle.schedule.specs.Made.{made}
 use Rattle.fragments.specs.Large.{large}
 use Rattle.cli_words.specs.declared.mode.Mode.{Mode}
-use Rattle.cli_words.specs.declared.mode.Mode.TheVariants.{Play, Big, Trace, Check, Large}
+use Rattle.cli_words.specs.declared.mode.Mode.TheVariants.{Play, Big, Trace, Check, Large, Messages}
 use Rattle.pastry.specs.declared.checking.TheConstants.{TRACE_LIMIT}
 use Rattle.pastry.specs.declared.output.Output.{Output}
 use Rattle.pastry.specs.declared.output.Output.TheVariants as output
 use Rattle.pastry.specs.declared.reading.TheConstants.{INPUT_LIMIT}
 use Rattle.pastry.specs.Checked.{HasChecked, HasJudged}
 use Rattle.pastry.specs.Large.{IsPlayedLarge}
-use Rattle.pastry.specs.Outputs.{output_text}
+use Rattle.pastry.specs.Outputs.{output_text, played_table}
 use Rattle.pastry.specs.Played.{HasTold, IsPlayed}
 use Rattle.pastry.specs.Reading.{IsScenario}
 
@@ -23,6 +22,7 @@ ReadsScenario (Big nodes seed) = ⊥
 ReadsScenario Trace = Unit {0}
 ReadsScenario Check = ⊥
 ReadsScenario (Large nodes seed size) = ⊥
+ReadsScenario Messages = Unit {0}
 
 -- the modes that read anything
 abbrev pub ReadsInput : Mode → Type 0
@@ -31,6 +31,7 @@ ReadsInput (Big nodes seed) = ⊥
 ReadsInput Trace = Unit {0}
 ReadsInput Check = Unit {0}
 ReadsInput (Large nodes seed size) = ⊥
+ReadsInput Messages = Unit {0}
 
 -- the most bytes that a mode reads
 abbrev pub limit_of : Mode → ℕ
@@ -39,10 +40,15 @@ limit_of (Big nodes seed) = 0
 limit_of Trace = INPUT_LIMIT
 limit_of Check = TRACE_LIMIT
 limit_of (Large nodes seed size) = 0
+limit_of Messages = INPUT_LIMIT
 
 -- a scenario was read to its end and played, and W says what became of its text
 abbrev pub HasPlayedRead : {S : Type 0} → (S → Option (List ℕ)) → S → S → Output → (List ℕ → Type 0) → Option Record → Type 0
 HasPlayedRead left before after o W played = HasTold (IsScenario (left before) (left after)) IsPlayed (output_text o) W played
+
+-- the same, with its table as the text
+abbrev pub HasPlayedTable : {S : Type 0} → (S → Option (List ℕ)) → S → S → (List ℕ → Type 0) → Option Record → Type 0
+HasPlayedTable left before after W played = HasTold (IsScenario (left before) (left after)) IsPlayed played_table W played
 
 -- the scenario that is made of a number of nodes and a seed was played, with the source left as it is
 abbrev pub HasPlayedMade : {S : Type 0} → S → S → ℕ → ℕ → (List ℕ → Type 0) → Option Record → Type 0
@@ -54,7 +60,7 @@ HasPlayedLarge before after nodes seed size W played =
     HasTold (λ s. (s ≡ large nodes seed size) × (after ≡ before)) (IsPlayedLarge seed size) (output_text (output.Large size)) W played
 
 -- what a mode is to do was done, and W says what became of its text: `play` writes the report of the scenario that it reads,
--- `trace` its trace, `big` the summary of the one that it makes, and `large` what became of a large file; `check` finds a trace
+-- `trace` its trace, `messages` its table, `big` the summary of the one that it makes, and `large` what became of a large file; `check` finds a trace
 -- legal
 abbrev pub IsDone : {S : Type 0} → Mode → (S → Option (List ℕ)) → S → S → (List ℕ → Type 0) → Option Record → Type 0
 IsDone Play left before after W played = HasPlayedRead left before after output.Report W played
@@ -62,6 +68,7 @@ IsDone (Big nodes seed) left before after W played = HasPlayedMade before after 
 IsDone Trace left before after W played = HasPlayedRead left before after output.Trace W played
 IsDone Check left before after W played = HasChecked (left before) (left after) W played
 IsDone (Large nodes seed size) left before after W played = HasPlayedLarge before after nodes seed size W played
+IsDone Messages left before after W played = HasPlayedTable left before after W played
 
 -- the same, but that `check` may also have found a trace wrong
 abbrev pub IsAtItsText : {S : Type 0} → Mode → (S → Option (List ℕ)) → S → S → (List ℕ → Type 0) → Option Record → Type 0
@@ -70,3 +77,4 @@ IsAtItsText (Big nodes seed) left before after W played = HasPlayedMade before a
 IsAtItsText Trace left before after W played = HasPlayedRead left before after output.Trace W played
 IsAtItsText Check left before after W played = HasJudged (left before) (left after) W played
 IsAtItsText (Large nodes seed size) left before after W played = HasPlayedLarge before after nodes seed size W played
+IsAtItsText Messages left before after W played = HasPlayedTable left before after W played

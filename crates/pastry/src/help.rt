@@ -22,11 +22,13 @@ usage: pastry play < SCENARIO
        pastry big [--nodes N] [--seed N]
        pastry trace < SCENARIO
        pastry check < TRACE
+       pastry messages < SCENARIO
        pastry large [--nodes N] [--seed N] [--size N]
 
   play        plays the scenario on standard input, and writes its report
   big         plays a scenario that it makes itself, and writes its summary and a tally
   trace       plays the scenario on standard input, and writes all that happened, as docs/TRACES.md has it
+  messages    plays the scenario on standard input, and writes every message with its number, for people to read
   check       reads what trace wrote, or anybody, and writes whether that could have happened
   large       stores a large file in fragments and fetches it again, in a scenario that it makes, and writes what came of it
 ";

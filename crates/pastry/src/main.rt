@@ -13,6 +13,7 @@ mod output;
 mod playing;
 mod progress;
 mod reading;
+mod table;
 mod telling;
 #[cfg(test)]
 mod tests;

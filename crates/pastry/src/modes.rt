@@ -18,6 +18,7 @@ use crate::large::play_large;
 use crate::outcome::{Outcome, TopFault};
 use crate::output::Output;
 use crate::playing::{play_made, play_read};
+use crate::table::tell_read;
 use cli_words::Mode;
 use outside::{Sink, Source, Turnstile};
 use std::alloc::Global;
@@ -54,5 +55,6 @@ pub(crate) fn run_mode<S: Source, K: Sink, T: Turnstile>(
         Mode::Trace => play_read(alloc, Output::Trace, source, sink, turnstile),
         Mode::Check => check_read(alloc, source, sink),
         Mode::Large { nodes, seed, size } => play_large(alloc, nodes, seed, size, sink, turnstile),
+        Mode::Messages => tell_read(alloc, source, sink, turnstile),
     }
 }

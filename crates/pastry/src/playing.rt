@@ -5,6 +5,7 @@ ghost use Rattle.outside.specs.Rose.{Rose};
 ghost use Rattle.scenario_reader.specs.declared.limits.TheConstants.{MOST_NODES};
 ghost use Rattle.scenario_reader.specs.declared.fault.LineFault.{LineFault as Fault};
 ghost use Rattle.schedule.specs.Made.{made};
+ghost use Rattle.play_engine.specs.Progress.{IsWhole, Plays};
 ghost use Rattle.pastry.specs.Faults.{status_of, IsMakingFault, IsPlayingFault};
 ghost use Rattle.pastry.specs.Outputs.{output_text};
 ghost use Rattle.pastry.specs.Played.{HasTold, IsPlayed};
@@ -19,7 +20,7 @@ use crate::output::{Output, output_text};
 use crate::reading::read_input;
 use outside::{Sink, Source, Turnstile, write_all};
 use overlay_rules::Record;
-use play_engine::{ids_of, play_past};
+use play_engine::{Player, ids_of, played_past};
 use ring_math::OutOfMemory;
 use scenario_reader::Scenario;
 use schedule::make_scenario;
@@ -34,7 +35,21 @@ fn play_scenario<T: Turnstile>(
 ) -> Result<Record, OutOfMemory>
     ensures { IfOk result (λ r. IsPlayed scenario.now r) }
 {
-    let record = play_past(alloc, scenario, turnstile)?;
+    let player = played_past(alloc, scenario, turnstile)?;
+    finished(alloc, scenario, player)
+}
+
+/// The record of a player that has played a scenario to its end. The headline holds of it.
+pub(crate) fn finished(
+    alloc: Global,
+    scenario: &Scenario,
+    player: Player,
+) -> Result<Record, OutOfMemory>
+    requires plays { Plays scenario.now player }
+    requires whole { IsWhole scenario.now player.recorded.entries player.skipped }
+    ensures { IfOk result (λ r. IsPlayed scenario.now r) }
+{
+    let record = player.finish();
     let nodes = ids_of(alloc, scenario.nodes())?;
     headline_law(&nodes, scenario.founder(), &record.entries);
     Ok(record)

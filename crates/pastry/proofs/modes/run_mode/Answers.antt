@@ -1,4 +1,4 @@
-use Rattle.cli_words.specs.declared.mode.Mode.TheVariants.{Play, Big, Trace, Check, Large}
+use Rattle.cli_words.specs.declared.mode.Mode.TheVariants.{Play, Big, Trace, Check, Large, Messages}
 use Rattle.pastry.proofs.Endings.{answers}
 use Rattle.pastry.proofs.Judging.{judges, judged_legal, judged_wrong}
 use Rattle.pastry.proofs.InMode.{at_its_text_in, done_in, due_in}
@@ -53,3 +53,13 @@ pub returns-in-Large-clause-broken_off : goal.returns-in-Large-clause-broken_off
 returns-in-Large-clause-broken_off g c = λ e.
     at_its_text_in _ (Large c.in-Large.nodes c.in-Large.seed c.in-Large.size) c.in-Large.is _ _ _ _ _
     (HasPlayedLarge-from_made _ _ _ _ _ _ (c.play_large.ensures.broken_off e))
+
+pub returns-in-Messages-clause-due : goal.returns-in-Messages-clause-due
+returns-in-Messages-clause-due g c =
+    due_in _ Messages c.in-Messages.is _ _ _ _ (λ source sink. answers _ _ _ _ _ (record {
+      kind = c.tell_read.ensures.kind;
+      done = λ e. let run = c.tell_read.ensures.done e in (run.scenario, run.from);
+      refused = c.tell_read.ensures.refused;
+      unread = c.tell_read.ensures.unread;
+      unwritten = c.tell_read.ensures.unwritten;
+    }) source sink)
