@@ -23,11 +23,11 @@ use Rattle.scribe_core.proofs.Holding.{Holds, IsBelow, due_note, due_send, holds
 
 -- ---- after the first entries
 
-run_push : (overlay : World) (w : Groups) (es : List GroupEntry) (e : GroupEntry) → run overlay w (es ++ e ∷ []) ≡ after overlay (run overlay w es) e
+pub run_push : (overlay : World) (w : Groups) (es : List GroupEntry) (e : GroupEntry) → run overlay w (es ++ e ∷ []) ≡ after overlay (run overlay w es) e
 run_push overlay w [] e = refl
 run_push overlay w (d ∷ es) e = run_push overlay (after overlay w d) es e
 
-past_of_run : (overlay : World) (w : Groups) (es : List GroupEntry) → (run overlay w es).past ≡ w.past ++ es
+pub past_of_run : (overlay : World) (w : Groups) (es : List GroupEntry) → (run overlay w es).past ≡ w.past ++ es
 past_of_run overlay w [] = sym (append-nil w.past)
 past_of_run overlay w (e ∷ es) = past_of_run overlay (after overlay w e) es ∙ append_assoc w.past (e ∷ []) es
 

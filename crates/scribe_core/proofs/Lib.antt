@@ -3,3 +3,4 @@ pub mod Facts
 pub mod Holding
 pub mod Overlay
 pub mod Kept
+pub mod Receivers

@@ -4,13 +4,17 @@
 //! root of the tree and from there down to all of its members. The overlay below does not change meanwhile.
 #![tactic(auto)]
 
+mod action;
 mod entry;
+mod group_record;
 mod laws;
 mod lists;
 mod message;
 mod note;
 
+pub use action::{GroupAction, GroupWhat};
 pub use entry::{GroupEntry, GroupEvent};
+pub use group_record::GroupRecord;
 pub use laws::groups_law;
 pub use lists::{GroupNotes, GroupSends};
 pub use message::{GroupCommand, GroupMessage, GroupSent};
