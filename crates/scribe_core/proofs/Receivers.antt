@@ -1,6 +1,5 @@
 -- Messages of a group record go from nodes to nodes.
-use Rattle.std.proofs.Common.{◌≡◌, ◌⊎◌, inl, inr, Bool, true, false, Some, ℕ, List, [], ◌∷◌, ◌++◌, map, slice_get, Contains, refl, sym, subst, ◌∙◌}
-use Rattle.std.specs.Prelude.{if◌then◌else◌}
+use Rattle.std.proofs.Common.{◌≡◌, ◌⊎◌, inl, inr, true, false, Some, ℕ, List, [], ◌∷◌, ◌++◌, slice_get, Contains, refl, sym, subst, ◌∙◌}
 use Rattle.std.proofs.lemmas.Bool.{cond_both}
 use Rattle.ring_math.specs.Keys.{id_of}
 use Rattle.ring_math.specs.Names.{Id, Number, Content}
@@ -18,7 +17,7 @@ use Rattle.scribe_core.specs.declared.message.GroupMessage.TheVariants as messag
 use Rattle.scribe_core.specs.declared.message.GroupSent.{GroupSent}
 use Rattle.scribe_core.specs.Laws.{overlay_of, sent_to}
 use Rattle.scribe_core.specs.Parts.{GroupName, Part, Place, Loose, Root, Under, Orphan, Input, Command, Comes, Addressed, becomes, nothing, to, to_each}
-use Rattle.scribe_core.specs.Record.{Groups, Visit, Follows, LegalFrom, IsGroupRecord, after, no_groups, run, sent_from, sent_in, step_at, way_in}
+use Rattle.scribe_core.specs.Record.{Groups, Follows, LegalFrom, IsGroupRecord, after, no_groups, run, sent_from, sent_in, step_at, way_in}
 use Rattle.scribe_core.specs.Step.{cast, group_step, heard, on_publish, on_published, on_subscribe, subscribe_beside}
 use Rattle.scribe_core.specs.Tree.{attach, attached, attached_from, is_idle, trim, trimmed_from}
 use Rattle.scribe_core.proofs.Holding.{Holds, holds_at_first, holds_next, sent_in-push}

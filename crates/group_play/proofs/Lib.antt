@@ -1,0 +1,4 @@
+mod Parts
+mod Seating
+mod Listing
+mod Happening

@@ -1,0 +1,35 @@
+-- A play over a world: what it keeps, and which numbers commands may have.
+use Rattle.std.specs.Prelude.{◌<◌, List, All, Contains}
+use Rattle.ring_math.specs.Names.{Id, Number}
+use Rattle.scribe_core.specs.declared.action.GroupWhat.{GroupWhat}
+use Rattle.scribe_core.specs.declared.action.GroupWhat.TheVariants as what
+use Rattle.scribe_core.specs.declared.entry.GroupEntry.{GroupEntry}
+use Rattle.scribe_core.specs.declared.entry.GroupEvent.{GroupEvent}
+use Rattle.scribe_core.specs.declared.entry.GroupEvent.TheVariants as event
+use Rattle.scribe_core.specs.Laws.{groups_in}
+use Rattle.scribe_core.specs.Record.{IsGroupRecord}
+use Rattle.world_model.specs.Recorded.{Recorded, setting_of, world_of}
+use Rattle.group_play.specs.declared.play.Play.{Play}
+use Rattle.group_play.specs.Messages.{ListsMessages}
+use Rattle.group_play.specs.Seats.{AreSeats, ShowParts}
+
+-- the record is legal, its messages are listed, and the seats show the parts after it
+pub record IsPlay (r : Recorded) (a : Play) : Type 0 where
+  pub seats : AreSeats a.seats
+  pub parts : ShowParts a.seats (groups_in (world_of r) a.entries).parts
+  pub messages : ListsMessages a.messages a.entries
+  pub legal : IsGroupRecord (setting_of r) (world_of r) a.entries
+
+-- the number is greater than that of each command so far
+abbrev pub IsNumberedBelow : Number → GroupEvent → Type 0
+IsNumberedBelow n (event.Command x m name c) = m < n
+IsNumberedBelow n (event.Deliver m) = Unit {0}
+
+abbrev pub IsNewest : Number → List GroupEntry → Type 0
+IsNewest n past = All (λ (e : GroupEntry). IsNumberedBelow n e.event) past
+
+-- after these entries this may be done
+abbrev pub CanAct : List Id → List GroupEntry → GroupWhat → Type 0
+CanAct nodes es (what.Command number node name command) = Contains nodes node × IsNewest number es
+CanAct nodes es (what.Settle n) = Unit {0}
+CanAct nodes es (what.Deliver m) = Unit {0}
