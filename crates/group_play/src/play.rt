@@ -2,6 +2,7 @@
 
 ghost use Rattle.std.specs.Prelude.{◌≡◌, ◌<◌, ◌++◌, ◌∷◌, [], Contains, IfOk, IsSome, OnOk, Some, length};
 ghost use Rattle.overlay_rules.specs.Record.{IsRecord};
+ghost use Rattle.scenario_reader.specs.Plain.{ids};
 ghost use Rattle.scribe_core.specs.declared.entry.GroupEvent.TheVariants as event;
 ghost use Rattle.scribe_core.specs.Actions.{AreActions};
 ghost use Rattle.scribe_core.specs.Played.{acted, delivered_once, happened, played, settled};
@@ -14,6 +15,7 @@ ghost use Rattle.group_play.specs.Playing.{CanAct, IsNewest, IsPlay};
 use crate::messages::{Listed, Messages};
 use crate::said::{Said, Spot};
 use crate::seats::Seats;
+use group_reader::GroupScript;
 use ring_math::{Id, OutOfMemory, id_of_name};
 use scenario_reader::Name;
 use scribe_core::{
@@ -22,8 +24,21 @@ use scribe_core::{
 use std::alloc::Global;
 use world_model::World;
 
-/// The group record that actions give over a world. The only error is that memory was refused.
+/// The group record of a script over the world that its part one has left. The only error is that memory was refused.
 pub fn play_groups(
+    alloc: Global,
+    script: &GroupScript,
+    world: &World,
+) -> Result<GroupRecord, OutOfMemory>
+    requires { world.now.nodes ≡ ids script.now.scenario.nodes }
+    ensures played { IfOk result (λ steps. steps ≡ played (world_of world.now) script.now.actions) }
+    ensures legal { IfOk result (λ steps. IsGroupRecord (setting_of world.now) (world_of world.now) steps) }
+{
+    play_actions(alloc, script.actions(), world)
+}
+
+/// The group record that actions give.
+fn play_actions(
     alloc: Global,
     actions: &[GroupAction],
     world: &World,

@@ -2,7 +2,7 @@ use Rattle.std.proofs.Common.{◌≡◌, ◌∙◌, ◌+◌, ◌∷◌, List, ap
 use Rattle.std.proofs.lemmas.List.{drop_more}
 use Rattle.scribe_core.specs.declared.action.GroupAction.{GroupAction}
 use Rattle.group_play.proofs.Happening.{IsPlayedTo, played_at_start, played_next}
-use Rattle.group_play.proofs.play.play_groups.Goals as goal
+use Rattle.group_play.proofs.play.play_actions.Goals as goal
 
 pub loop-action-init : goal.loop-action-init
 loop-action-init c = record {
