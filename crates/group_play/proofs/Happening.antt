@@ -113,7 +113,8 @@ newest_push n overlay es v h below =
 
 newest_settled : (n : ℕ) (overlay : World) (count : ℕ) (es : List GroupEntry) → IsNewest n es → IsNewest n (settled overlay count es)
 newest_settled n overlay zero es h = h
-newest_settled n overlay (suc count) es h = newest_settled n overlay count (delivered_oldest overlay (oldest_undelivered es) es) (one (oldest_undelivered es)) where
+newest_settled n overlay (suc count) es h =
+    newest_settled n overlay count (delivered_oldest overlay (oldest_undelivered es) es) (one (oldest_undelivered es)) where
   one : (o : Option ℕ) → IsNewest n (delivered_oldest overlay o es)
   one None = h
   one (Some m) = newest_push n overlay es (event.Deliver m) h tt

@@ -1,5 +1,6 @@
 -- The messages of a record that has one entry more.
-use Rattle.std.proofs.Common.{◌≡◌, ◌≢◌, ◌<◌, ◌≤◌, ◌==◌, ℕ, zero, suc, ◌+◌, ◌-◌, inl, inr, Bool, true, false, cond, ◌||◌, Option, Some, None, List, [], ◌∷◌, ◌++◌, length}
+use Rattle.std.proofs.Common.{◌≡◌, ◌≢◌, ◌<◌, ◌≤◌, ◌==◌, ℕ, zero, suc, ◌+◌, ◌-◌, inl, inr, Bool, true, false, cond, ◌||◌, Option, Some, None, List, []}
+use Rattle.std.proofs.Common.{◌∷◌, ◌++◌, length}
 use Rattle.std.proofs.Common.{get_or, map, slice_get, slice_set, nat_lt, get_or-set_same, get_or-set_other}
 use Rattle.std.proofs.Common.{refl, sym, ap, subst, ◌∙◌, arith, length-append, zero-add, add-zero}
 use Rattle.std.specs.Prelude.{option_and_then}
@@ -239,7 +240,9 @@ oldest_listed es a h = elim (cases_Bool (nat_lt a.oldest (length a.delivered.ite
       ap (λ b. cond b (Some a.oldest) None) t ∙ sym (ap (undelivered_from es 0) l ∙ skip 0)
 ] where
   skip : (n : ℕ) → undelivered_from es 0 (a.oldest + n) ≡ undelivered_from es a.oldest n
-  skip n = undelivered_skip es 0 a.oldest n (λ j lo hi. h.marks.each j ∙ h.oldest.before j (omega arith)) ∙ ap (λ k. undelivered_from es k n) (zero-add a.oldest)
+  skip n =
+      undelivered_skip es 0 a.oldest n (λ j lo hi. h.marks.each j ∙ h.oldest.before j (omega arith))
+      ∙ ap (λ k. undelivered_from es k n) (zero-add a.oldest)
 
 -- a message that was sent stands where it is listed
 pub message_stands : (es : List GroupEntry) (a : Messages) (m : ℕ) (d : Listed) → ListsMessages a es → m < length (sent_in es) →

@@ -18,7 +18,10 @@ loop-action-preserved c =
     ∙ ap (λ (b : GroupAction). b ∷ drop (c.loop-action.action-index + 1) c.args.actions.now) (sym c.action-item.is) in
     record {
       plays = c.in_ok-act.ensures.plays;
-      played = subst (IsPlayedTo c.args.world.now c.args.actions.now (drop (c.loop-action.action-index + 1) c.args.actions.now)) (sym c.in_ok-act.ensures.entries)
+      played =
+          subst (IsPlayedTo c.args.world.now c.args.actions.now (drop (c.loop-action.action-index + 1) c.args.actions.now))
+          (sym c.in_ok-act.ensures.entries)
           (played_next c.args.world.now c.args.actions.now (drop (c.loop-action.action-index + 1) c.args.actions.now) a c.loop-action.play.entries
-          (subst (λ (rest : List GroupAction). IsPlayedTo c.args.world.now c.args.actions.now rest c.loop-action.play.entries) left c.loop-action.invariant.played));
+          (subst (λ (rest : List GroupAction). IsPlayedTo c.args.world.now c.args.actions.now rest c.loop-action.play.entries) left
+          c.loop-action.invariant.played));
     }

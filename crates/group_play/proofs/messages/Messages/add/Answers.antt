@@ -14,7 +14,8 @@ returns c = λ es e h d n k keys.
     (subst (λ (o : Option ℕ). IsBelow (length old) o) d (subst (λ m. IsBelow m c.args.delivered) c.args.self.now.delivered.ok.0 c.requires))
     (c.in_ok-list.ensures ∙ ap (λ (m : ℕ). c.args.self.now.listed.items ++ listed m c.args.key c.args.count) n
     ∙ ap (λ (m : ℕ). c.args.self.now.listed.items ++ listed (length es) c.args.key m) k)
-    (c.in_ok-add_marks.ensures.count ∙ ap (λ (ms : List Bool). length ms + c.args.count) marks ∙ ap (λ (m : ℕ). length (marked (delivered_by e.event) old) + m) k)
+    (c.in_ok-add_marks.ensures.count ∙ ap (λ (ms : List Bool). length ms + c.args.count) marks
+    ∙ ap (λ (m : ℕ). length (marked (delivered_by e.event) old) + m) k)
     (λ m. c.in_ok-add_marks.ensures.marks m ∙ ap (λ (ms : List Bool). get_or ms m false) marks)
     (subst (λ (ms : List Bool). c.first_unmarked-self.result ≤ length ms) seen c.first_unmarked-self.ensures.within)
     (subst (λ (ms : List Bool). (m : ℕ) → c.args.self.now.oldest ≤ m → m < c.first_unmarked-self.result → get_or ms m false ≡ true) seen
