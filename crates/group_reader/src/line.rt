@@ -143,11 +143,7 @@ fn read_publish(
 }
 
 /// Reads `settle N`.
-fn read_settle(
-    draft: &mut ScriptBuilder,
-    line: u32,
-    count: &Word<'_>,
-) -> Result<(), LineFault>
+fn read_settle(draft: &mut ScriptBuilder, line: u32, count: &Word<'_>) -> Result<(), LineFault>
     ensures { Gives (read_form draft.old line Form.Settle (plain_word count.now ∷ [])) result draft.new }
 {
     let amount = number_at(line, count)?;
@@ -160,11 +156,7 @@ fn read_settle(
 }
 
 /// Reads `deliver N`.
-fn read_deliver(
-    draft: &mut ScriptBuilder,
-    line: u32,
-    message: &Word<'_>,
-) -> Result<(), LineFault>
+fn read_deliver(draft: &mut ScriptBuilder, line: u32, message: &Word<'_>) -> Result<(), LineFault>
     ensures { Gives (read_form draft.old line Form.Deliver (plain_word message.now ∷ [])) result draft.new }
 {
     let number = number_at(line, message)?;

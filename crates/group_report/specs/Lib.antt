@@ -1,0 +1,4 @@
+pub mod Answers
+pub mod Hearings
+pub mod Counts
+pub mod Report
