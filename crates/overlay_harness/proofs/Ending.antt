@@ -5,7 +5,6 @@ use Rattle.std.specs.List.{AllZip}
 use Rattle.std.proofs.Math.Seq.{take-append_seam}
 use Rattle.std.proofs.lemmas.List.{length-map, map_more, take_all}
 use Rattle.ring_math.specs.Names.{Id}
-use Rattle.wire_msg.specs.Words.{Envelope, plain_envelope}
 use Rattle.overlay_rules.specs.declared.entry.Record.{Record}
 use Rattle.overlay_rules.specs.Record.{sent_in}
 use Rattle.overlay_rules.specs.State.{State}
@@ -14,21 +13,17 @@ use Rattle.scenario_reader.specs.Plain.{PlainScenario}
 use Rattle.scenario_reader.specs.Rules.{AreActions, KeepsRules}
 use Rattle.scenario_reader.specs.Tallies.{start}
 use Rattle.schedule.specs.Schedule.{setting_of}
-use Rattle.weave_laws.specs.Cells.{CellEntry, CellInput, Command, Comes, Noise, History, IsFor, AreSteps, stepped}
+use Rattle.weave_laws.specs.Answered.{AllSent}
+use Rattle.weave_laws.specs.Cells.{CellEntry, History, IsFor, AreSteps, stepped}
 use Rattle.weave_laws.specs.Histories.{AreHistories}
 use Rattle.weave_laws.specs.Numbers.{ShareNoNumber}
 use Rattle.weave_laws.specs.Woven.{IsWoven}
 use Rattle.node_cell.specs.Cell.{Cell}
 use Rattle.weave.specs.Cells.{AreOneRing, HasNoPasses, IsLawful, histories, nodes}
-use Rattle.weave.specs.Stray.{IsDueTo, IsSentByNone}
-use Rattle.weave.specs.declared.fault.WeaveFault.{WeaveFault}
-use Rattle.weave.specs.declared.fault.WeaveFault.TheVariants as fault
-use Rattle.weave.proofs.Standing.{contains_get}
 use Rattle.weave.proofs.Woven.{are_histories}
 use Rattle.overlay_harness.specs.Clauses.{HasItsCommands, HasItsNoise}
 use Rattle.overlay_harness.specs.Enough.{CameAtMost, delivered}
-use Rattle.overlay_harness.specs.Inputs.{envelope_in, envelopes_in}
-use Rattle.overlay_harness.specs.Once.{AllTookOnce, SentBySome, TookOnce}
+use Rattle.overlay_harness.specs.Once.{AllTookOnce, TookOnce}
 use Rattle.overlay_harness.specs.Ran.{KeptStages, RanStages, inputs_in}
 use Rattle.overlay_harness.specs.Run.{IsRunOf}
 use Rattle.overlay_harness.specs.Served.{IsServedTo, ServedTo}
@@ -37,8 +32,8 @@ use Rattle.overlay_harness.specs.Hand.{ServedWhole}
 use Rattle.overlay_harness.specs.Work.{MayBeTold, fresh_cells}
 use Rattle.overlay_harness.specs.Shown.{shown}
 use Rattle.overlay_harness.specs.declared.stage.Stage.{Stage as CodeStage}
-use Rattle.overlay_harness.specs.Whole.{AreCellsOf, HaveKept, HaveRun, IsMemory, TookWhatWasSent}
-use Rattle.overlay_harness.proofs.Made.{actions_staged, are_stages, fresh_are, fresh_once, fresh_served, may_be_told, own_nodes}
+use Rattle.overlay_harness.specs.Whole.{AreCellsOf, HaveKept, HaveRun}
+use Rattle.overlay_harness.proofs.Made.{actions_staged, are_stages, fresh_are, fresh_once, fresh_sent, fresh_served, may_be_told, own_nodes}
 use Rattle.overlay_harness.proofs.Running.{RunsIn, runs_counted, runs_in, woven_is_run}
 use Rattle.overlay_harness.proofs.Serving.{AreStages, founders_whole, served_more}
 use Rattle.overlay_harness.proofs.Without.{fresh_without, whole_without}
@@ -51,9 +46,9 @@ have_run s cells k t = record {
   cells_are = k.cells_are;
   ran = Each-all (RanStages (stages_of s) hs) hs
       (Each-weaker (Contains hs) (RanStages (stages_of s) hs) hs
-      (λ h c. by_hand (stages_of s) hs h (Each-contains (ServedTo (stages_of s) hs) hs h served c) (Each-contains (TookOnce hs) hs h once c)) (Each-itself hs));
-  sent = Each-all (λ (h : History). All (SentBySome hs) (envelopes_in (inputs_in h))) hs
-      (Each-weaker (TookOnce hs) (λ (h : History). All (SentBySome hs) (envelopes_in (inputs_in h))) hs (λ h d. d.sent) once);
+      (λ h c. by_hand (stages_of s) hs h k.sent c (Each-contains (ServedTo (stages_of s) hs) hs h served c) (Each-contains TookOnce hs h once c))
+      (Each-itself hs));
+  sent = k.sent;
 } where
   hs : List History
   hs = histories cells
@@ -61,8 +56,8 @@ have_run s cells k t = record {
   served : Each (ServedTo (stages_of s) hs) hs
   served = Each-from_all (ServedTo (stages_of s) hs) hs k.served
 
-  once : Each (TookOnce hs) hs
-  once = Each-from_all (TookOnce hs) hs t
+  once : Each TookOnce hs
+  once = Each-from_all TookOnce hs t
 
 pub have_kept : (s : PlainScenario) (cells : List Cell) → IsServedTo s (stages_of s) cells → HaveKept s cells
 have_kept s cells k = record {
@@ -70,6 +65,7 @@ have_kept s cells k = record {
   kept = Each-all (KeptStages (stages_of s) (histories cells)) (histories cells)
       (Each-weaker (ServedTo (stages_of s) (histories cells)) (KeptStages (stages_of s) (histories cells)) (histories cells)
       (λ h d. kept_stages (stages_of s) (histories cells) h d) (Each-from_all (ServedTo (stages_of s) (histories cells)) (histories cells) k.served));
+  sent = k.sent;
 }
 
 -- ---- they are one ring
@@ -80,6 +76,7 @@ kept_of s cells h = record {
   kept = Each-all (KeptStages (stages_of s) (histories cells)) (histories cells)
       (Each-weaker (RanStages (stages_of s) (histories cells)) (KeptStages (stages_of s) (histories cells)) (histories cells) (λ k r. r.kept)
       (Each-from_all (RanStages (stages_of s) (histories cells)) (histories cells) h.ran));
+  sent = h.sent;
 }
 
 shares_none : (s : PlainScenario) (cells : List Cell) → KeepsRules s → HaveKept s cells → ShareNoNumber (histories cells)
@@ -128,41 +125,6 @@ counted_run_of s cells r rules h lawful w noise enough =
       own : AreHistories (setting_of s) hs
       own = in_setting s cells rules h lawful
 
--- ---- none of them took what was not sent
-
-came_in : (es : List CellEntry) (e : CellEntry) (v : Envelope) → e.input ≡ Comes v → Contains es e →
-    Contains (envelopes_in (map (λ (d : CellEntry). d.input) es)) v
-came_in [] e v is (k, lt, same) = absurd (omega arith)
-came_in (d ∷ es) e v is (zero, lt, same) =
-    subst (λ i. Contains (envelope_in i ++ envelopes_in (map (λ (f : CellEntry). f.input) es)) v) (sym (ap (λ (f : CellEntry). f.input) same ∙ is))
-    (0, omega arith, refl)
-came_in (d ∷ es) e v is (suc k, lt, same) = behind d.input (came_in es e v is (k, omega arith, same)) where
-  behind : (i : CellInput) → Contains (envelopes_in (map (λ (f : CellEntry). f.input) es)) v →
-      Contains (envelope_in i ++ envelopes_in (map (λ (f : CellEntry). f.input) es)) v
-  behind (Command n c) h = h
-  behind (Comes w) h = (suc h.0, (let l = h.1 in omega arith), h.2)
-  behind Noise h = h
-
-not_stray : (hs : List History) (v : Envelope) → SentBySome hs v → IsSentByNone hs v → ⊥
-not_stray hs v s none =
-    Each-contains (λ (e : CellEntry). Contains e.sent v → ⊥) s.history.entries s.entry
-    (Each-from_all (λ (e : CellEntry). Contains e.sent v → ⊥) s.history.entries
-    (Each-contains (λ (h : History). All (λ (e : CellEntry). Contains e.sent v → ⊥) h.entries) hs s.history
-    (Each-from_all (λ (h : History). All (λ (e : CellEntry). Contains e.sent v → ⊥) h.entries) hs none) s.among)) s.stands s.sent
-
-pub only_memory : (hs : List History) → TookWhatWasSent hs → (f : WeaveFault) → IsDueTo hs f → IsMemory f
-only_memory hs t fault.OutOfMemory d = tt
-only_memory hs t (fault.Stray x place v) d =
-    let history = d.stray.stands.history in
-    let came =
-    came_in history.entries d.stray.entry (plain_envelope v) d.stray.takes (contains_get history.entries place d.stray.entry d.stray.stands.there) in
-    not_stray hs (plain_envelope v)
-    (Each-contains (SentBySome hs) (envelopes_in (inputs_in history)) (plain_envelope v)
-    (Each-from_all (SentBySome hs) (envelopes_in (inputs_in history))
-    (Each-contains (λ (k : History). All (SentBySome hs) (envelopes_in (inputs_in k))) hs history
-    (Each-from_all (λ (k : History). All (SentBySome hs) (envelopes_in (inputs_in k))) hs t) d.stray.stands.among)) came)
-    d.stray.unsent
-
 -- ---- by the type of cells
 
 steps_addressed : (x : Id) (s : State) (es : List CellEntry) → AreSteps x s es → Each (λ (e : CellEntry). IsFor x e.input) es
@@ -179,6 +141,7 @@ all_addressed_by (c ∷ cells) h = (steps_addressed c.node _ c.history h.0.histo
 -- what the service of one stage more promises
 pub record IsOneMore (stage : Stage) (olds news : List Cell) : Type 0 where
   pub whole : AllZip (ServedWhole stage (histories news)) olds news
+  pub sent : AllSent (histories olds) → AllSent (histories news)
   pub nodes_are : nodes news ≡ nodes olds
   pub lawful : All IsLawful news
 
@@ -189,6 +152,7 @@ served_to_next s stages stage olds news rules a k m = record {
   served = Each-all (ServedTo (stages ++ stage ∷ []) (histories news)) (histories news)
       (served_more stages stage olds news a (own_nodes s news rules are) (all_addressed_by news (Each-from_all IsLawful news m.lawful)) m.whole
       (Each-from_all (ServedTo stages (histories olds)) (histories olds) k.served));
+  sent = m.sent k.sent;
   without = Each-all HasNoPasses news (whole_without stage (histories news) olds news m.whole (Each-from_all HasNoPasses olds k.without));
 } where
   are : AreCellsOf s news
@@ -203,6 +167,7 @@ pub served_to_none : (s : PlainScenario) → IsServedTo s [] (fresh_cells s)
 served_to_none s = record {
   cells_are = fresh_are s;
   served = Each-all (ServedTo [] (histories (fresh_cells s))) (histories (fresh_cells s)) (fresh_served (histories (fresh_cells s)) s.founder s.nodes);
+  sent = fresh_sent s.founder s.nodes;
   without = Each-all HasNoPasses (fresh_cells s) (fresh_without s.founder s.nodes);
 }
 
@@ -257,7 +222,7 @@ pub all_served : (s : PlainScenario) (codes : List CodeStage) (i : ℕ) (cells :
 all_served s codes i cells e le k = subst (λ ss. IsServedTo s ss cells) (ap (map shown) (take_all i codes le) ∙ e) k
 
 pub none_took : (s : PlainScenario) → AllTookOnce (histories (fresh_cells s))
-none_took s = Each-all (TookOnce (histories (fresh_cells s))) (histories (fresh_cells s)) (fresh_once (histories (fresh_cells s)) s.founder s.nodes)
+none_took s = Each-all TookOnce (histories (fresh_cells s)) (fresh_once s.founder s.nodes)
 
 -- a slice that was lent is written back
 pub put_back : {A : Type 0} (items news : List A) (n : ℕ) → length news ≡ length items → n ≡ length items →

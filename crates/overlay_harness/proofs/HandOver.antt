@@ -1,6 +1,6 @@
 -- A message is handed over to one of the cells.
 use Rattle.std.proofs.Common.{◌≡◌, ◌≢◌, ◌≤◌, ◌<◌, inl, inr, ℕ, zero, suc, ◌+◌, Option, Some, None, IfSome, IfNone, List, [], ◌∷◌, ◌++◌, map, set, slice_get}
-use Rattle.std.proofs.Common.{option_map, append-nil, length, All, Contains, refl, sym, subst, ap, ◌∙◌, length-append, arith}
+use Rattle.std.proofs.Common.{option_map, length, All, Contains, refl, sym, subst, ap, ◌∙◌, length-append, arith}
 use Rattle.std.specs.List.{AllZip}
 use Rattle.std.proofs.Math.ListN.{length-set}
 use Rattle.std.proofs.lemmas.List.{map-append}
@@ -8,6 +8,7 @@ use Rattle.std.proofs.lemmas.Option.{slice_get-map}
 use Rattle.ring_math.specs.Names.{Id}
 use Rattle.wire_msg.specs.Words.{Envelope, plain_envelope}
 use Rattle.overlay_rules.proofs.Each.{Each, Each-all, Each-contains, Each-from_all}
+use Rattle.weave_laws.specs.Answered.{AllSent, IsSentIn}
 use Rattle.weave_laws.specs.Cells.{CellEntry, CellInput, Comes, History}
 use Rattle.node_cell.specs.Cell.{Cell, entry_next, with_input}
 use Rattle.node_cell.specs.Taken.{TookBytes}
@@ -17,11 +18,12 @@ use Rattle.weave.specs.Unread.{AllRead, IsFirstUnread, IsTakenByNone, IsUnread}
 use Rattle.weave.specs.declared.waiting.Unread.{Unread}
 use Rattle.weave.proofs.Standing.{contains_get}
 use Rattle.overlay_harness.specs.Hand.{AllTookUpTo, IsDone, IsDoneAt, IsFrameOf, IsNext, TookUpTo}
-use Rattle.overlay_harness.specs.Once.{AllTookOnce, SentBySome, TookOnce}
+use Rattle.overlay_harness.specs.Once.{AllTookOnce, TookOnce}
 use Rattle.overlay_harness.specs.Ran.{inputs_in}
 use Rattle.overlay_harness.specs.Time.{room}
 use Rattle.overlay_harness.specs.Work.{with_inputs}
-use Rattle.overlay_harness.proofs.Hands.{Grew, came_once, told_once}
+use Rattle.overlay_harness.proofs.Hands.{came_once}
+use Rattle.overlay_harness.proofs.Sendings.{all_sent-came}
 use Rattle.overlay_harness.proofs.Working.{inputs-append, inputs_after, nodes_at}
 
 -- ---- one cell with an envelope more
@@ -68,29 +70,12 @@ less_room (n ∷ ends) (d ∷ cells) (suc place) c end i at its lt = let rest = 
 
 -- ---- each envelope once
 
-grew_none : (h : History) → Grew h h
-grew_none h = record { node = refl; more = []; entries = sym (append-nil h.entries) }
-
-grew_one : (c : Cell) (i : CellInput) → Grew (kept_history c) (kept_history (with_input c i))
-grew_one c i = record { node = refl; more = entry_next c i ∷ []; entries = refl }
-
-grew_all : (cells : List Cell) → AllZip Grew (histories cells) (histories cells)
-grew_all [] = tt
-grew_all (c ∷ cells) = (grew_none (kept_history c), grew_all cells)
-
-grew_set : (cells : List Cell) (place : ℕ) (c : Cell) (i : CellInput) → slice_get cells place ≡ Some c →
-    AllZip Grew (histories cells) (histories (set cells place (with_input c i)))
-grew_set [] place c i at = tt
-grew_set (d ∷ cells) zero c i at =
-    let same : d ≡ c = cc in (subst (λ (e : Cell). Grew (kept_history e) (kept_history (with_input c i))) (sym same) (grew_one c i), grew_all cells)
-grew_set (d ∷ cells) (suc place) c i at = (grew_none (kept_history d), grew_set cells place c i at)
-
-pub sent_unread : (hs : List History) (receiver x : Id) (place n : ℕ) (v : Envelope) → IsUnread hs receiver x place n v → SentBySome hs v
+pub sent_unread : (hs : List History) (receiver x : Id) (place n : ℕ) (v : Envelope) → IsUnread hs receiver x place n v → IsSentIn hs v
 sent_unread hs receiver x place n v u = record {
   history = u.stands.history;
   among = u.stands.among;
   entry = u.entry;
-  stands = contains_get u.stands.history.entries place u.entry u.stands.there;
+  there = contains_get u.stands.history.entries place u.entry u.stands.there;
   sent = contains_get u.entry.sent n v u.sent;
 }
 
@@ -105,41 +90,27 @@ never_came hs v h none c =
       inputs [] k = tt
       inputs (e ∷ es) k = (k.0, inputs es k.1)
 
-history_there : (cells : List Cell) (place : ℕ) (c : Cell) → slice_get cells place ≡ Some c → Contains (histories cells) (kept_history c)
+pub history_there : (cells : List Cell) (place : ℕ) (c : Cell) → slice_get cells place ≡ Some c → Contains (histories cells) (kept_history c)
 history_there cells place c at =
     contains_get (histories cells) place (kept_history c) (slice_get-map kept_history cells place ∙ ap (option_map kept_history) at)
 
 -- a cell that takes an envelope that none took yet
 pub once-more : (cells : List Cell) (place : ℕ) (c : Cell) (v : Envelope) → AllTookOnce (histories cells) → slice_get cells place ≡ Some c →
-    SentBySome (histories cells) v → IsTakenByNone (histories cells) v → AllTookOnce (histories (set cells place (with_input c (Comes v))))
-once-more cells place c v t at s none =
-    Each-all (TookOnce ks) ks (each cells place at (Each-from_all (TookOnce hs) hs t)) where
-      hs : List History
-      hs = histories cells
+    IsTakenByNone (histories cells) v → AllTookOnce (histories (set cells place (with_input c (Comes v))))
+once-more cells place c v t at none =
+    Each-all TookOnce (histories (set cells place new)) (each cells place at (Each-from_all TookOnce (histories cells) t)) where
+      new : Cell
+      new = with_input c (Comes v)
 
-      ks : List History
-      ks = histories (set cells place (with_input c (Comes v)))
-
-      grew : AllZip Grew hs ks
-      grew = grew_set cells place c (Comes v) at
-
-      same : (d : Cell) → TookOnce hs (kept_history d) → TookOnce ks (kept_history d)
-      same d one = told_once hs ks (kept_history d) (kept_history d) [] grew one (sym (append-nil (inputs_in (kept_history d)))) tt
-
-      all_same : (ds : List Cell) → Each (TookOnce hs) (histories ds) → Each (TookOnce ks) (histories ds)
-      all_same [] e = tt
-      all_same (d ∷ ds) e = (same d e.0, all_same ds e.1)
-
-      each : (ds : List Cell) (n : ℕ) → slice_get ds n ≡ Some c → Each (TookOnce hs) (histories ds) →
-          Each (TookOnce ks) (histories (set ds n (with_input c (Comes v))))
+      each : (ds : List Cell) (n : ℕ) → slice_get ds n ≡ Some c → Each TookOnce (histories ds) → Each TookOnce (histories (set ds n new))
       each [] n is e = tt
       each (d ∷ ds) zero is e =
           let this : d ≡ c = cc in (
-            came_once hs ks (kept_history c) (kept_history (with_input c (Comes v))) v grew (subst (λ (f : Cell). TookOnce hs (kept_history f)) this e.0)
-                (inputs_after c (Comes v ∷ [])) s (never_came hs v (kept_history c) none (history_there cells place c at)),
-            all_same ds e.1,
+            came_once (kept_history c) (kept_history new) v (subst (λ (f : Cell). TookOnce (kept_history f)) this e.0) (inputs_after c (Comes v ∷ []))
+                (never_came (histories cells) v (kept_history c) none (history_there cells place c at)),
+            e.1,
           )
-      each (d ∷ ds) (suc n) is e = (same d e.0, each ds n is e.1)
+      each (d ∷ ds) (suc n) is e = (e.0, each ds n is e.1)
 
 -- ---- what is found
 
@@ -214,17 +185,18 @@ handed_is cells ends place frame c new h =
 pub record IsHandedTo (ends : List ℕ) (olds cells : List Cell) : Type 0 where
   pub took : AllTookUpTo ends olds cells
   pub once : AllTookOnce (histories olds) → AllTookOnce (histories cells)
+  pub sent : AllSent (histories olds) → AllSent (histories cells)
   pub nodes_are : nodes cells ≡ nodes olds
   pub long : length cells ≡ length olds
 
-none_yet : (ends : List ℕ) (cells : List Cell) → length ends ≡ length cells → AllTookUpTo ends cells cells
+pub none_yet : (ends : List ℕ) (cells : List Cell) → length ends ≡ length cells → AllTookUpTo ends cells cells
 none_yet [] [] l = tt
 none_yet [] (c ∷ cells) l = absurd (omega arith)
 none_yet (n ∷ ends) [] l = absurd (omega arith)
 none_yet (n ∷ ends) (c ∷ cells) l = (record { envelopes = []; took = refl; few = inr refl }, none_yet ends cells (omega arith))
 
 pub handed_at_first : (ends : List ℕ) (cells : List Cell) → length ends ≡ length cells → IsHandedTo ends cells cells
-handed_at_first ends cells l = record { took = none_yet ends cells l; once = λ h. h; nodes_are = refl; long = refl }
+handed_at_first ends cells l = record { took = none_yet ends cells l; once = λ h. h; sent = λ h. h; nodes_are = refl; long = refl }
 
 pub handed_more : (ends : List ℕ) (olds cells : List Cell) (place : ℕ) (frame : List ℕ) (c new : Cell) → IsHandedTo ends olds cells →
     WasHanded cells ends place frame c new → IsHandedTo ends olds (set cells place new)
@@ -232,9 +204,10 @@ handed_more ends olds cells place frame c new k h =
     let n = h.next in
     subst (IsHandedTo ends olds) (sym (handed_is cells ends place frame c new h)) (record {
       took = all_took-more ends olds cells place n.cell n.end n.envelope k.took n.there n.its_end n.behind;
-      once = λ once.
-          once-more cells place n.cell n.envelope (k.once once) n.there
-          (sent_unread (histories cells) n.cell.node n.sender n.entry n.first.n n.envelope n.first.unread) n.first.unread.untaken;
+      once = λ once. once-more cells place n.cell n.envelope (k.once once) n.there n.first.unread.untaken;
+      sent = λ sent.
+          all_sent-came cells place n.cell n.envelope n.there
+          (sent_unread (histories cells) n.cell.node n.sender n.entry n.first.n n.envelope n.first.unread) (k.sent sent);
       nodes_are = nodes_at cells place n.cell (Comes n.envelope) n.there ∙ k.nodes_are;
       long = length-set cells place (with_input n.cell (Comes n.envelope)) ∙ k.long;
     })

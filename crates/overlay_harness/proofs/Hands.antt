@@ -7,11 +7,13 @@ use Rattle.std.proofs.lemmas.List.Concat.{flat_map-cons}
 use Rattle.std.proofs.lemmas.List.Quantifiers.{all_pairs_push}
 use Rattle.std.proofs.lemmas.List.Sums.{sum_by-cons, sum_by-append}
 use Rattle.wire_msg.specs.Words.{Envelope}
-use Rattle.overlay_rules.proofs.Each.{Each, Each-append, Each-all, Each-from_all, Each-weaker}
+use Rattle.overlay_rules.proofs.Each.{Each, Each-all}
+use Rattle.weave_laws.specs.Answered.{IsSentIn}
 use Rattle.weave_laws.specs.Cells.{CellEntry, CellInput, Command, Comes, Noise, History}
+use Rattle.node_cell.specs.Sent.{sent_by}
 use Rattle.overlay_harness.specs.Inputs.{envelope_in, envelopes_in, is_command, is_noise}
-use Rattle.overlay_harness.specs.Ran.{all_sent, inputs_in, sent_by}
-use Rattle.overlay_harness.specs.Once.{SentBySome, TookOnce}
+use Rattle.overlay_harness.specs.Ran.{all_sent, inputs_in}
+use Rattle.overlay_harness.specs.Once.{TookOnce}
 use Rattle.overlay_harness.proofs.Numbering.{Among}
 
 -- ---- each once, and each sent: they weigh no more than all that was sent
@@ -80,10 +82,10 @@ among_parts g (y ∷ xs) x v (inl e) k =
 among_parts g (y ∷ xs) x v (inr h) k =
     subst (Among v) (sym (flat_map-cons g y xs)) (among_behind v (g y) (flat_map g xs) (among_parts g xs x v h k))
 
-pub sent_among : (hs : List History) (v : Envelope) → SentBySome hs v → Among v (all_sent hs)
+pub sent_among : (hs : List History) (v : Envelope) → IsSentIn hs v → Among v (all_sent hs)
 sent_among hs v s =
     among_parts (λ (h : History). sent_by h.entries) hs s.history v (among hs s.history s.among)
-    (among_parts (λ (e : CellEntry). e.sent) s.history.entries s.entry v (among s.history.entries s.entry s.stands) (among s.entry.sent v s.sent))
+    (among_parts (λ (e : CellEntry). e.sent) s.history.entries s.entry v (among s.history.entries s.entry s.there) (among s.entry.sent v s.sent))
 
 -- ---- envelopes of inputs
 
@@ -138,24 +140,21 @@ contains_front (d ∷ es) more e (zero, lt, is) = (0, omega arith, is)
 contains_front (d ∷ es) more e (suc k, lt, is) =
     let rest = contains_front es more e (k, omega arith, is) in (suc rest.0, (let l = rest.1 in omega arith), rest.2)
 
-pub sent_grows : (hs ks : List History) → AllZip Grew hs ks → (v : Envelope) → SentBySome hs v → SentBySome ks v
+pub sent_grows : (hs ks : List History) → AllZip Grew hs ks → (v : Envelope) → IsSentIn hs v → IsSentIn ks v
 sent_grows hs ks z v s =
     let own = zip_there hs ks z s.history s.among in record {
       history = own.0;
       among = own.1;
       entry = s.entry;
-      stands = subst (λ es. Contains es s.entry) (sym own.2.entries) (contains_front s.history.entries own.2.more s.entry s.stands);
+      there = subst (λ es. Contains es s.entry) (sym own.2.entries) (contains_front s.history.entries own.2.more s.entry s.there);
       sent = s.sent;
     }
 
 -- ---- what keeps it
 
-pub told_once : (hs ks : List History) (h k : History) (inputs : List CellInput) → AllZip Grew hs ks → TookOnce hs h → inputs_in k ≡ inputs_in h ++ inputs →
-    Each (λ (i : CellInput). is_command i ≡ true) inputs → TookOnce ks k
-told_once hs ks h k inputs z t is commands = record {
-  sent = Each-all (SentBySome ks) (envelopes_in (inputs_in k)) (subst (Each (SentBySome ks)) (sym same)
-      (Each-weaker (SentBySome hs) (SentBySome ks) (envelopes_in (inputs_in h)) (λ v s. sent_grows hs ks z v s)
-      (Each-from_all (SentBySome hs) (envelopes_in (inputs_in h)) t.sent)));
+pub told_once : (h k : History) (inputs : List CellInput) → TookOnce h → inputs_in k ≡ inputs_in h ++ inputs →
+    Each (λ (i : CellInput). is_command i ≡ true) inputs → TookOnce k
+told_once h k inputs t is commands = record {
   once = subst (AllPairs ◌≢◌) (sym same) t.once;
   no_noise = ap (count_by is_noise) is ∙ noise-append (inputs_in h) inputs
       ∙ (let one = t.no_noise in let two = no_noise inputs commands in omega arith);
@@ -166,14 +165,9 @@ told_once hs ks h k inputs z t is commands = record {
       ∙ ap (λ vs. envelopes_in (inputs_in h) ++ vs) (no_envelopes inputs commands)
       ∙ append-nil (envelopes_in (inputs_in h))
 
-pub came_once : (hs ks : List History) (h k : History) (v : Envelope) → AllZip Grew hs ks → TookOnce hs h → inputs_in k ≡ inputs_in h ++ Comes v ∷ [] →
-    SentBySome hs v → Each (λ (i : CellInput). i ≢ Comes v) (inputs_in h) → TookOnce ks k
-came_once hs ks h k v z t is s none = record {
-  sent = Each-all (SentBySome ks) (envelopes_in (inputs_in k)) (subst (Each (SentBySome ks)) (sym same)
-      (Each-append (SentBySome ks) (envelopes_in (inputs_in h)) (v ∷ [])
-      (Each-weaker (SentBySome hs) (SentBySome ks) (envelopes_in (inputs_in h)) (λ w s. sent_grows hs ks z w s)
-      (Each-from_all (SentBySome hs) (envelopes_in (inputs_in h)) t.sent))
-      (sent_grows hs ks z v s, tt)));
+pub came_once : (h k : History) (v : Envelope) → TookOnce h → inputs_in k ≡ inputs_in h ++ Comes v ∷ [] →
+    Each (λ (i : CellInput). i ≢ Comes v) (inputs_in h) → TookOnce k
+came_once h k v t is none = record {
   once = subst (AllPairs ◌≢◌) (sym same)
       (all_pairs_push ◌≢◌ (envelopes_in (inputs_in h)) v t.once
       (λ n d lt. (Each-all (λ w. w ≢ v) (envelopes_in (inputs_in h)) (none_came v (inputs_in h) none)) n d lt));

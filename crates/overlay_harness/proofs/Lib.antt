@@ -5,7 +5,9 @@ pub mod Numbering
 pub mod Weights
 pub mod Along
 pub mod Hands
+pub mod Sendings
 pub mod Counting
+pub mod TooOften
 pub mod Running
 pub mod Lasting
 pub mod Together
@@ -17,3 +19,7 @@ pub mod Ending
 pub mod Stamps
 pub mod Bounds
 mod Without
+pub mod Workers
+pub mod Driving
+pub mod Starting
+pub mod Finishing

@@ -1,6 +1,6 @@
 -- The cells of a scenario: their nodes differ, and before its stages nothing came to them.
 use Rattle.std.proofs.Common.{◌≡◌, ◌≢◌, ◌⊎◌, inl, inr, ◌<◌, ℕ, suc, Bool, true, false, not, ◌==◌, List, [], ◌∷◌, ◌++◌, map, take, drop, get_or, length}
-use Rattle.std.proofs.Common.{slice_index_or, AllPairs, refl, sym, subst, ap, ◌∙◌, append_assoc, arith}
+use Rattle.std.proofs.Common.{slice_index_or, AllPairs, Contains, refl, sym, subst, ap, ◌∙◌, append_assoc, arith}
 use Rattle.std.proofs.lemmas.Bool.{cases_Bool, and_from, cond-true, cond-false}
 use Rattle.std.proofs.lemmas.List.{take-append-drop}
 use Rattle.std.proofs.Math.Seq.{drop-cons}
@@ -8,12 +8,13 @@ use Rattle.ring_math.specs.Names.{Id}
 use Rattle.ring_math.specs.Sides.{is_in}
 use Rattle.ring_math.proofs.Membership.{Contains-is_in}
 use Rattle.overlay_rules.specs.Record.{all_differ}
-use Rattle.overlay_rules.proofs.Each.{Each, Each-all}
+use Rattle.overlay_rules.proofs.Each.{Each, Each-all, Each-contains}
 use Rattle.scenario_reader.specs.declared.action.Action.{Action}
 use Rattle.scenario_reader.specs.declared.node.NodeLine.{NodeLine}
 use Rattle.scenario_reader.specs.Plain.{PlainScenario, ids}
 use Rattle.scenario_reader.specs.Rules.{AreActions, KeepsRules}
 use Rattle.scenario_reader.specs.Tallies.{start, tally_from}
+use Rattle.weave_laws.specs.Answered.{AllSent}
 use Rattle.weave_laws.specs.Cells.{CellEntry, History}
 use Rattle.node_cell.specs.Cell.{Cell, empty_cell}
 use Rattle.weave.specs.Cells.{histories, kept_history, nodes}
@@ -68,12 +69,20 @@ fresh_served hs founder [] = tt
 fresh_served hs founder (n ∷ lines) = (fresh_one hs n.id (n.id == founder), fresh_served hs founder lines)
 
 -- and none took anything
-pub fresh_once : (hs : List History) (founder : ℕ) (lines : List NodeLine) → Each (TookOnce hs) (histories (fresh founder lines))
-fresh_once hs founder [] = tt
-fresh_once hs founder (n ∷ lines) = (
-  record { sent = λ k d lt. absurd (omega arith); once = λ i j d lt inside. absurd (omega arith); no_noise = refl },
-  fresh_once hs founder lines,
-)
+pub fresh_once : (founder : ℕ) (lines : List NodeLine) → Each TookOnce (histories (fresh founder lines))
+fresh_once founder [] = tt
+fresh_once founder (n ∷ lines) = (record { once = λ i j d lt inside. absurd (omega arith); no_noise = refl }, fresh_once founder lines)
+
+pub fresh_sent : (founder : ℕ) (lines : List NodeLine) → AllSent (histories (fresh founder lines))
+fresh_sent founder lines = record {
+  sent = λ h e v among there is.
+      absurd (subst (λ (es : List CellEntry). Contains es e → ⊥)
+      (sym (Each-contains (λ (k : History). k.entries ≡ []) (histories (fresh founder lines)) h (none lines) among))
+      (λ c. omega (arith, c.1)) there);
+} where
+  none : (ns : List NodeLine) → Each (λ (k : History). k.entries ≡ []) (histories (fresh founder ns))
+  none [] = tt
+  none (n ∷ ns) = (refl, none ns)
 
 -- ---- the stages hold all actions, in order
 

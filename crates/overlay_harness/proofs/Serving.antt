@@ -1,6 +1,6 @@
 -- Cells that were served the stages so far, and are served one more by hand.
 use Rattle.std.proofs.Common.{◌≡◌, ◌≢◌, ◌≤◌, ◌⊎◌, inl, inr, ℕ, zero, suc, ◌+◌, ◌==◌, ◌||◌, not, Bool, true, false, Some, List, [], ◌∷◌, ◌++◌, map, filter}
-use Rattle.std.proofs.Common.{slice_get, length, All, Contains, refl, sym, subst, ap, ◌∙◌, append-nil, append_assoc, arith}
+use Rattle.std.proofs.Common.{slice_get, length, All, Contains, refl, sym, subst, ap, ◌∙◌, append_assoc, arith}
 use Rattle.std.specs.List.{AllZip, list_any}
 use Rattle.std.proofs.lemmas.Bool.{cond-true, cond-false, cases_Bool, and_parts}
 use Rattle.std.proofs.lemmas.Bool.Decides.{Decides-eqb}
@@ -20,7 +20,7 @@ use Rattle.scenario_reader.specs.declared.tally.Tally.{Tally}
 use Rattle.scenario_reader.specs.Rules.{AreActions}
 use Rattle.scenario_reader.specs.Tallies.{tally_from}
 use Rattle.weave_laws.specs.Cells.{CellEntry, CellInput, Command, Comes, Noise, History, IsFor, nodes_of}
-use Rattle.node_cell.specs.Cell.{Cell, entry_next, with_input}
+use Rattle.node_cell.specs.Cell.{Cell, with_input}
 use Rattle.weave.specs.Cells.{histories, kept_history}
 use Rattle.weave.specs.Unread.{AllRead, IsTakenByNone}
 use Rattle.overlay_harness.specs.Along.{RanAlong}
@@ -33,10 +33,11 @@ use Rattle.overlay_harness.specs.Served.{ServedTo}
 use Rattle.overlay_harness.specs.Ran.{SentInTime, inputs_in}
 use Rattle.overlay_harness.specs.Work.{IsNumberedUpTo, told, with_inputs}
 use Rattle.overlay_harness.proofs.Along.{all_frames, are_commands, along_more, frames-append}
-use Rattle.overlay_harness.proofs.Hands.{Grew, told_once}
+use Rattle.overlay_harness.proofs.Hands.{told_once}
 use Rattle.overlay_harness.proofs.HandOver.{longer}
 use Rattle.overlay_harness.proofs.Lasting.{IsOfStage, WasTold, served_anew, served_before}
 use Rattle.overlay_harness.proofs.Numbering.{Among, numbers_between, said}
+use Rattle.overlay_harness.proofs.Sendings.{grew_by}
 use Rattle.overlay_harness.proofs.Working.{founder_after, inputs_after, node_after}
 
 -- ---- the whole stage
@@ -78,42 +79,16 @@ whole_stage s hs [] (c ∷ news) t d = absurd t
 whole_stage s hs (o ∷ olds) [] t d = absurd t
 whole_stage s hs (o ∷ olds) (c ∷ news) t d = (whole_one s hs o c t.0 d.0, whole_stage s hs olds news t.1 d.1)
 
--- ---- entries that came with inputs
-
-record GrewBy (inputs : List CellInput) (h k : History) : Type 0 where
-  grew : Grew h k
-  came : map (λ (e : CellEntry). e.input) grew.more ≡ inputs
-
-grew_by : (c : Cell) (inputs : List CellInput) → GrewBy inputs (kept_history c) (kept_history (with_inputs c inputs))
-grew_by c [] = record { grew = record { node = refl; more = []; entries = sym (append-nil c.history) }; came = refl }
-grew_by c (i ∷ inputs) =
-    let rest = grew_by (with_input c i) inputs in record {
-      grew = record {
-        node = rest.grew.node;
-        more = entry_next c i ∷ rest.grew.more;
-        entries = rest.grew.entries ∙ append_assoc c.history (entry_next c i ∷ []) rest.grew.more;
-      };
-      came = ap (λ is. i ∷ is) rest.came;
-    }
+-- ---- what commands bring
 
 -- commands that are told come to each once
 pub all_told_once : (actions : List Action) (cells : List Cell) → AllTookOnce (histories cells) → AllTookOnce (histories (map (told actions) cells))
-all_told_once actions cells t = Each-all (TookOnce ks) ks (each cells (Each-from_all (TookOnce hs) hs t)) where
-  hs : List History
-  hs = histories cells
-
-  ks : List History
-  ks = histories (map (told actions) cells)
-
-  grown : (cs : List Cell) → AllZip Grew (histories cs) (histories (map (told actions) cs))
-  grown [] = tt
-  grown (c ∷ cs) = ((grew_by c (commands_to c.node actions)).grew, grown cs)
-
-  each : (cs : List Cell) → Each (TookOnce hs) (histories cs) → Each (TookOnce ks) (histories (map (told actions) cs))
+all_told_once actions cells t = Each-all TookOnce (histories (map (told actions) cells)) (each cells (Each-from_all TookOnce (histories cells) t)) where
+  each : (cs : List Cell) → Each TookOnce (histories cs) → Each TookOnce (histories (map (told actions) cs))
   each [] k = tt
   each (c ∷ cs) k = (
-    told_once hs ks (kept_history c) (kept_history (told actions c)) (commands_to c.node actions) (grown cells) k.0
-        (inputs_after c (commands_to c.node actions)) (are_commands c.node actions),
+    told_once (kept_history c) (kept_history (told actions c)) (commands_to c.node actions) k.0 (inputs_after c (commands_to c.node actions))
+        (are_commands c.node actions),
     each cs k.1,
   )
 

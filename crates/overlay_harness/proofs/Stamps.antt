@@ -3,12 +3,12 @@ use Rattle.std.proofs.Common.{◌≡◌, ◌≤◌, ℕ, zero, suc, max, Some, L
 use Rattle.ring_math.specs.Names.{Stamp}
 use Rattle.wire_msg.specs.Words.{Envelope}
 use Rattle.overlay_rules.proofs.Each.{Each, Each-all, Each-both, Each-contains, Each-from_all, Each-weaker}
+use Rattle.weave_laws.specs.Answered.{IsSentIn}
 use Rattle.weave_laws.specs.Cells.{CellEntry, CellInput, History, AreStampedAfter, input_stamp, last_stamp}
 use Rattle.weave_laws.proofs.OneMore.{last_stamp-push}
 use Rattle.weave_laws.proofs.Sendings.{IsStamped, cell_stamped}
 use Rattle.node_cell.specs.Cell.{Cell, entry_next, stamp_of, with_input}
 use Rattle.weave.specs.Cells.{IsLawful, histories}
-use Rattle.overlay_harness.specs.Once.{SentBySome}
 use Rattle.overlay_harness.specs.Time.{HasTime}
 
 last_rises : (last : Stamp) (es : List CellEntry) → AreStampedAfter last es → last ≤ last_stamp last es
@@ -32,12 +32,12 @@ sent_up_to most (c ∷ cells) l s = (
 )
 
 pub sent_stamp : (most : Stamp) (cells : List Cell) → Each IsLawful cells → Each (λ (c : Cell). stamp_of c ≤ most) cells → (v : Envelope) →
-    SentBySome (histories cells) v → v.stamp ≤ most
+    IsSentIn (histories cells) v → v.stamp ≤ most
 sent_stamp most cells l s v sent =
     Each-contains (λ (w : Envelope). w.stamp ≤ most) sent.entry.sent v
     (Each-contains (λ (e : CellEntry). Each (λ (w : Envelope). w.stamp ≤ most) e.sent) sent.history.entries sent.entry
     (Each-contains (λ (h : History). Each (λ (e : CellEntry). Each (λ (w : Envelope). w.stamp ≤ most) e.sent) h.entries) (histories cells) sent.history
-    (sent_up_to most cells l s) sent.among) sent.stands) sent.sent
+    (sent_up_to most cells l s) sent.among) sent.there) sent.sent
 
 -- an input of at most this stamp raises none above the next
 pub time_after : (more : ℕ) (cells : List Cell) (place : ℕ) (c : Cell) (i : CellInput) → (t : HasTime (suc more) cells) → slice_get cells place ≡ Some c →

@@ -1,19 +1,20 @@
 -- Histories of a scenario that were served by hand are those of a run.
-use Rattle.std.proofs.Common.{◌≡◌, ◌≤◌, inl, inr, ℕ, zero, suc, ◌*◌, true, false, List, [], ◌∷◌, map, filter, Contains, refl, sym, subst, ap, ◌∙◌, arith}
+use Rattle.std.proofs.Common.{◌≡◌, ◌≤◌, inl, inr, ℕ, zero, suc, ◌*◌, true, false, List, [], ◌∷◌, ◌++◌, map, filter, Contains, refl, sym, subst, ap, ◌∙◌, arith}
 use Rattle.std.specs.List.{sum_by}
 use Rattle.ring_math.specs.Names.{Number}
 use Rattle.wire_msg.specs.declared.command.Command.{Command as NodeCommand}
-use Rattle.overlay_rules.proofs.Each.{Each, Each-contains, Each-from_all, Each-weaker}
+use Rattle.overlay_rules.proofs.Each.{Each, Each-contains, Each-itself}
 use Rattle.scenario_reader.specs.declared.node.NodeLine.{NodeLine}
 use Rattle.scenario_reader.specs.declared.node.FileLine.{FileLine}
 use Rattle.scenario_reader.specs.declared.tally.Tally.{Tally}
 use Rattle.scenario_reader.specs.Rules.{AreActions}
+use Rattle.weave_laws.specs.Answered.{AllSent}
 use Rattle.weave_laws.specs.Cells.{CellEntry, CellInput, Command, Comes, Noise, History}
 use Rattle.weave_laws.specs.Numbers.{HasNumber, ShareNoNumber}
 use Rattle.overlay_harness.specs.Stages.{Stage, actions_of, commands_to, most_copies}
-use Rattle.overlay_harness.specs.Inputs.{envelopes_in, is_command}
+use Rattle.overlay_harness.specs.Inputs.{envelope_in, envelopes_in, is_command}
 use Rattle.overlay_harness.specs.Clauses.{HasItsCommands, WasSentEnough}
-use Rattle.overlay_harness.specs.Once.{SentBySome, TookOnce}
+use Rattle.overlay_harness.specs.Once.{TookOnce}
 use Rattle.overlay_harness.specs.Served.{ServedTo}
 use Rattle.overlay_harness.specs.Ran.{KeptStages, RanStages, all_sent, inputs_in}
 use Rattle.overlay_harness.proofs.Along.{within_budgets}
@@ -63,12 +64,25 @@ no_more : (k x : ℕ) → 1 ≤ k → x ≤ k * x
 no_more (suc k) x le = omega arith
 no_more zero x le = absurd (omega arith)
 
-sent_enough : (stages : List Stage) (hs : List History) (h : History) → TookOnce hs h → WasSentEnough stages (all_sent hs) (inputs_in h)
-sent_enough stages hs h t = λ weight.
-    let once =
-    weigh_once weight (envelopes_in (inputs_in h)) (all_sent hs) t.once
-    (Each-weaker (SentBySome hs) (λ v. Among v (all_sent hs)) (envelopes_in (inputs_in h)) (λ v s. sent_among hs v s)
-    (Each-from_all (SentBySome hs) (envelopes_in (inputs_in h)) t.sent)) in
+-- what came is among what was sent
+came_among : (hs : List History) (h : History) → AllSent hs → Contains hs h → Each (λ v. Among v (all_sent hs)) (envelopes_in (inputs_in h))
+came_among hs h all among = each h.entries (Each-itself h.entries) where
+  each : (es : List CellEntry) → Each (Contains h.entries) es → Each (λ v. Among v (all_sent hs)) (envelopes_in (map (λ (e : CellEntry). e.input) es))
+  each [] there = tt
+  each (e ∷ es) there = by e.input refl (each es there.1) where
+    rest : List CellInput
+    rest = map (λ (d : CellEntry). d.input) es
+
+    by : (i : CellInput) → e.input ≡ i → Each (λ v. Among v (all_sent hs)) (envelopes_in rest) →
+        Each (λ v. Among v (all_sent hs)) (envelope_in i ++ envelopes_in rest)
+    by (Command n c) is others = others
+    by (Comes v) is others = (sent_among hs v (all.sent h e v among there.0 is), others)
+    by Noise is others = others
+
+sent_enough : (stages : List Stage) (hs : List History) (h : History) → AllSent hs → Contains hs h → TookOnce h →
+    WasSentEnough stages (all_sent hs) (inputs_in h)
+sent_enough stages hs h all among t = λ weight.
+    let once = weigh_once weight (envelopes_in (inputs_in h)) (all_sent hs) t.once (came_among hs h all among) in
     let more = no_more (most_copies stages) (sum_by weight (all_sent hs)) (some_copies stages) in
     omega arith
 
@@ -77,9 +91,9 @@ kept_stages stages hs h s =
     record { commands = s.along.commands; budgets = within_budgets stages h.node (inputs_in h) s.along; served = s.served }
 
 -- what took each envelope once besides
-pub by_hand : (stages : List Stage) (hs : List History) (h : History) → ServedTo stages hs h → TookOnce hs h → RanStages stages hs h
-by_hand stages hs h s t = record {
+pub by_hand : (stages : List Stage) (hs : List History) (h : History) → AllSent hs → Contains hs h → ServedTo stages hs h → TookOnce h → RanStages stages hs h
+by_hand stages hs h all among s t = record {
   kept = kept_stages stages hs h s;
   noise = (let none = t.no_noise in omega arith);
-  sent = sent_enough stages hs h t;
+  sent = sent_enough stages hs h all among t;
 }

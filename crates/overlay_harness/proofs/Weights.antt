@@ -13,7 +13,8 @@ use Rattle.overlay_rules.proofs.Each.{Each, Each-from_all}
 use Rattle.weave_laws.specs.Cells.{CellEntry, History, nodes_of}
 use Rattle.weave_laws.specs.Woven.{Act, part, IsWovenOrder}
 use Rattle.weave_laws.proofs.Interleaved.{part-there}
-use Rattle.overlay_harness.specs.Ran.{all_sent, sent_by}
+use Rattle.node_cell.specs.Sent.{sent_by}
+use Rattle.overlay_harness.specs.Ran.{all_sent}
 
 -- the weight of lists put together is that of each, added
 pub weight_of_all : {A B : Type 0} (f : B → ℕ) (g : A → List B) (xs : List A) → sum_by f (flat_map g xs) ≡ sum_by (λ x. sum_by f (g x)) xs

@@ -9,6 +9,7 @@ use Rattle.overlay_rules.specs.declared.entry.Entry.{Entry}
 use Rattle.overlay_rules.specs.Record.{Setting, sent_in}
 use Rattle.weave_laws.specs.Cells.{CellInput, Command, Comes, Noise, History}
 use Rattle.weave_laws.specs.Given.{history_of}
+pub use Rattle.weave.specs.Taken.{envelope_in}
 
 -- ---- the inputs of a node
 
@@ -55,11 +56,6 @@ is_frame Noise = true
 
 abbrev pub frames_in : List CellInput → ℕ
 frames_in inputs = count_by is_frame inputs
-
-abbrev pub envelope_in : CellInput → List Envelope
-envelope_in (Command n c) = []
-envelope_in (Comes v) = v ∷ []
-envelope_in Noise = []
 
 -- the envelopes among them, in order
 abbrev pub envelopes_in : List CellInput → List Envelope

@@ -11,5 +11,8 @@ pub mod Shown
 pub mod Work
 pub mod Hand
 pub mod Whole
+pub mod Tested
 pub mod Time
 pub mod Served
+pub mod Rounds
+pub mod Driven

@@ -3,6 +3,7 @@ use Rattle.std.specs.Prelude.{◌≡◌, false, List, map, Contains}
 use Rattle.std.specs.List.{flat_map}
 use Rattle.wire_msg.specs.Words.{Envelope}
 use Rattle.weave_laws.specs.Cells.{CellEntry, CellInput, History}
+use Rattle.node_cell.specs.Sent.{sent_by}
 use Rattle.overlay_harness.specs.Stages.{Stage}
 use Rattle.overlay_harness.specs.Clauses.{HasItsCommands, HasItsNoise, IsServed, IsWithinBudgets, WasSentEnough, is_late}
 
@@ -10,10 +11,7 @@ use Rattle.overlay_harness.specs.Clauses.{HasItsCommands, HasItsNoise, IsServed,
 abbrev pub inputs_in : History → List CellInput
 inputs_in h = map (λ (e : CellEntry). e.input) h.entries
 
--- all that a history sent, and all that several did, in order
-abbrev pub sent_by : List CellEntry → List Envelope
-sent_by es = flat_map (λ (e : CellEntry). e.sent) es
-
+-- all that several histories sent, in order
 abbrev pub all_sent : List History → List Envelope
 all_sent hs = flat_map (λ (h : History). sent_by h.entries) hs
 

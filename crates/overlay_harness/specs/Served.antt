@@ -1,6 +1,7 @@
 -- Cells of a scenario that were served some of its stages.
 use Rattle.std.specs.Prelude.{List, All}
 use Rattle.scenario_reader.specs.Plain.{PlainScenario}
+use Rattle.weave_laws.specs.Answered.{AllSent}
 use Rattle.weave_laws.specs.Cells.{History}
 use Rattle.node_cell.specs.Cell.{Cell}
 use Rattle.weave.specs.Cells.{HasNoPasses, histories}
@@ -15,8 +16,9 @@ pub record ServedTo (stages : List Stage) (hs : List History) (h : History) : Ty
   pub along : RanAlong stages h.node (inputs_in h)
   pub served : IsServed stages (SentInTime stages hs) h.node (inputs_in h)
 
--- so it is of the cells of the scenario, which have no passes
+-- so it is of the cells of the scenario, which took only what they sent, and have no passes
 pub record IsServedTo (s : PlainScenario) (stages : List Stage) (cells : List Cell) : Type 0 where
   pub cells_are : AreCellsOf s cells
   pub served : All (ServedTo stages (histories cells)) (histories cells)
+  pub sent : AllSent (histories cells)
   pub without : All HasNoPasses cells

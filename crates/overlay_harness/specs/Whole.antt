@@ -1,14 +1,10 @@
 -- Cells that ran a scenario.
 use Rattle.std.specs.Prelude.{◌≡◌, ◌==◌, List, All}
 use Rattle.scenario_reader.specs.Plain.{PlainScenario, ids}
-use Rattle.weave_laws.specs.Cells.{History}
+use Rattle.weave_laws.specs.Answered.{AllSent}
 use Rattle.node_cell.specs.Cell.{Cell}
 use Rattle.weave.specs.Cells.{histories, nodes}
-use Rattle.weave.specs.declared.fault.WeaveFault.{WeaveFault}
-use Rattle.weave.specs.declared.fault.WeaveFault.TheVariants as fault
-use Rattle.overlay_harness.specs.Inputs.{envelopes_in}
-use Rattle.overlay_harness.specs.Once.{SentBySome}
-use Rattle.overlay_harness.specs.Ran.{KeptStages, RanStages, inputs_in}
+use Rattle.overlay_harness.specs.Ran.{KeptStages, RanStages}
 use Rattle.overlay_harness.specs.Stages.{stages_of}
 
 -- they are the cells of its nodes
@@ -16,22 +12,15 @@ pub record AreCellsOf (s : PlainScenario) (cells : List Cell) : Type 0 where
   pub nodes_are : nodes cells ≡ ids s.nodes
   pub founders : All (λ (c : Cell). c.is_founder ≡ (c.node == s.founder)) cells
 
--- they are the cells of its nodes, each of which ran its stages, however often a mailbox handed out a frame
+-- they are the cells of its nodes, each of which ran its stages and took only what they sent, however often a mailbox handed out a
+-- frame
 pub record HaveKept (s : PlainScenario) (cells : List Cell) : Type 0 where
   pub cells_are : AreCellsOf s cells
   pub kept : All (KeptStages (stages_of s) (histories cells)) (histories cells)
-
--- each envelope that came was sent by one of them
-abbrev pub TookWhatWasSent : List History → Type 0
-TookWhatWasSent hs = All (λ (h : History). All (SentBySome hs) (envelopes_in (inputs_in h))) hs
+  pub sent : AllSent (histories cells)
 
 -- cells of a scenario, each of which ran its stages and took only what they sent: whatever threads served them
 pub record HaveRun (s : PlainScenario) (cells : List Cell) : Type 0 where
   pub cells_are : AreCellsOf s cells
   pub ran : All (RanStages (stages_of s) (histories cells)) (histories cells)
-  pub sent : TookWhatWasSent (histories cells)
-
--- the fault is want of memory
-abbrev pub IsMemory : WeaveFault → Type 0
-IsMemory (fault.Stray x place v) = ⊥
-IsMemory fault.OutOfMemory = Unit {0}
+  pub sent : AllSent (histories cells)

@@ -1,16 +1,17 @@
 //! Whether messages and noise came no more often than they could.
 
-ghost use Rattle.std.specs.Prelude.{◌≡◌, ◌≤◌, ◌+◌, cond, true, All, IfOk, IfSome, length, map};
+ghost use Rattle.std.specs.Prelude.{◌≡◌, ◌≤◌, ◌⊎◌, ◌-◌, ℕ, [], true, false, All, IfOk, length, map, slice_index};
 ghost use Rattle.std.specs.List.{count_by};
 ghost use Rattle.overlay_rules.specs.Record.{sent_in};
 ghost use Rattle.overlay_rules.specs.Seen.{event_seen};
 ghost use Rattle.node_cell.specs.Entries.{plain_input_of};
 ghost use Rattle.weave.specs.Cells.{histories};
 ghost use Rattle.overlay_harness.specs.Clauses.{HasItsNoise};
-ghost use Rattle.overlay_harness.specs.Enough.{AreCountedDown, CameAtMost, IsCountedDown, IsOneLess, delivered};
+ghost use Rattle.overlay_harness.specs.Enough.{AreCountedDown, AreLeftOf, CameAtMost, CameTooOften, IsCountedDown, IsOfThese, IsOneLess, IsUsedUp, delivered};
 ghost use Rattle.overlay_harness.specs.Inputs.{is_noise};
 ghost use Rattle.overlay_harness.specs.Ran.{inputs_in};
 ghost use Rattle.overlay_harness.specs.Shown.{shown};
+ghost use Rattle.overlay_harness.specs.Tested.{HasTooMuchNoise};
 ghost use Rattle.overlay_harness.specs.Stages.{is_noise_for, most_copies, noise_for};
 
 use crate::stage::Stage;
@@ -20,13 +21,15 @@ use ring_math::{Id, OutOfMemory};
 use scenario_reader::{Action, What};
 use std::alloc::Global;
 
-/// Whether each message was delivered at most so many times for each time that it was sent.
+/// Whether each message was delivered at most so many times.
 pub(crate) fn came_at_most(
     alloc: Global,
     entries: &Entries,
     copies: u8,
 ) -> Result<bool, OutOfMemory>
-    ensures { IfOk result (λ kept. kept ≡ true → CameAtMost copies (sent_in entries.now) (delivered (sent_in entries.now) entries.now)) }
+    requires { All (λ e. IsOfThese (length (sent_in entries.now)) e.event) entries.now }
+    ensures kept { IfOk result (λ kept. kept ≡ true → CameAtMost copies (sent_in entries.now) (delivered (sent_in entries.now) entries.now)) }
+    ensures more { IfOk result (λ kept. kept ≡ false → CameTooOften copies entries.now) }
 {
     let mut left = Vec::new(alloc);
     left.resize(entries.sent().len(), copies)?;
@@ -35,8 +38,10 @@ pub(crate) fn came_at_most(
 
 /// Counts all deliveries down from what is left of each message, or as far as something is left of it.
 fn count_all(left: &mut [u8], entries: &Entries) -> bool
-    requires { length left.old ≡ length (sent_in entries.now) }
-    ensures { result ≡ true → AreCountedDown left.old (sent_in entries.now) entries.now left.new }
+    requires long { length left.old ≡ length (sent_in entries.now) }
+    requires these { All (λ e. IsOfThese (length (sent_in entries.now)) e.event) entries.now }
+    ensures kept { result ≡ true → AreCountedDown left.old (sent_in entries.now) entries.now left.new }
+    ensures more { (copies : ℕ) → AreLeftOf copies [] left.old → result ≡ false → CameTooOften copies entries.now }
 {
     for place in 0..entries.len() {
         let entry = entries.at(place);
@@ -55,7 +60,8 @@ fn count_all(left: &mut [u8], entries: &Entries) -> bool
 
 /// Takes one off what is left of the message that an event delivered, and answers false where nothing is left of it.
 fn count_down(left: &mut [u8], event: &EventRef) -> bool
-    ensures { result ≡ true → IsCountedDown left.old (event_seen event.now) left.new }
+    ensures kept { result ≡ true → IsCountedDown left.old (event_seen event.now) left.new }
+    ensures more { result ≡ false → IsUsedUp left.old (event_seen event.now) }
 {
     let EventRef::Deliver { message } = event else {
         return true;
@@ -64,7 +70,8 @@ fn count_down(left: &mut [u8], event: &EventRef) -> bool
 }
 
 fn take_one(left: &mut [u8], message: u64) -> bool
-    ensures { result ≡ true → IsOneLess left.old message left.new }
+    ensures kept { result ≡ true → IsOneLess left.old message left.new }
+    ensures more { result ≡ false → (length left.old ≤ message) ⊎ (slice_index left.old message ≡ 0) }
 {
     if message >= left.len() as u64 {
         return false;
@@ -90,39 +97,29 @@ pub(crate) fn most_copies(stages: &[Stage<'_>]) -> u8
 
 /// Whether noise came to each node at most as often as the stages have it.
 pub(crate) fn noise_is_theirs(cells: &[NodeCell], stages: &[Stage<'_>]) -> bool
-    ensures { result ≡ true → All (λ h. HasItsNoise (map shown stages.now) h.node (inputs_in h)) (histories cells.now) }
+    ensures kept { result ≡ true → All (λ h. HasItsNoise (map shown stages.now) h.node (inputs_in h)) (histories cells.now) }
+    ensures more { result ≡ false → HasTooMuchNoise (map shown stages.now) (histories cells.now) }
 {
     for cell in cells {
-        if !noise_is_within(cell.history(), noise_for(stages, cell.me())) {
+        let came = noise_in(cell.history());
+        if noise_past(came, stages, cell.me()) > 0 {
             return false;
         }
     }
     true
 }
 
-/// Whether noise came at most so often.
-fn noise_is_within(history: &[CellEntry], most: usize) -> bool
-    ensures { result ≡ true → count_by (λ e. is_noise (plain_input_of e.input)) history.now ≤ most }
+/// How often noise came.
+fn noise_in(history: &[CellEntry]) -> usize
+    ensures { result ≡ count_by (λ e. is_noise (plain_input_of e.input)) history.now }
 {
-    let mut left = most;
+    let mut count = 0;
     for entry in history {
-        let Some(rest) = left_after(left, &entry.input) else {
-            return false;
-        };
-        left = rest;
+        if is_noise(&entry.input) {
+            count += 1;
+        }
     }
-    true
-}
-
-/// What is left of so much noise after an input.
-fn left_after(left: usize, input: &CellInput) -> Option<usize>
-    ensures { IfSome result (λ rest. cond (is_noise (plain_input_of input.now)) 1 0 + rest ≡ left) }
-{
-    if is_noise(input) {
-        left.checked_sub(1)
-    } else {
-        Some(left)
-    }
+    count
 }
 
 fn is_noise(input: &CellInput) -> bool
@@ -131,16 +128,16 @@ fn is_noise(input: &CellInput) -> bool
     matches!(input, CellInput::Noise)
 }
 
-/// How often noise for a node can come in the stages: each as often as its stage has copies.
-fn noise_for(stages: &[Stage<'_>], node: Id) -> usize
-    ensures { result ≤ noise_for node (map shown stages.now) }
+/// How often noise came to a node past what the stages have for it: each noise as often as its stage has copies.
+fn noise_past(came: usize, stages: &[Stage<'_>], node: Id) -> usize
+    ensures { result ≡ came - noise_for node (map shown stages.now) }
 {
-    let mut most: usize = 0;
+    let mut past = came;
     for stage in stages {
         let own = noise_in_stage(stage.actions, node);
-        most = most.saturating_add(own.saturating_mul(stage.copies as usize));
+        past = past.saturating_sub(own.saturating_mul(stage.copies as usize));
     }
-    most
+    past
 }
 
 fn noise_in_stage(actions: &[Action], node: Id) -> usize

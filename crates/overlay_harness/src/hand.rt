@@ -2,6 +2,7 @@
 
 ghost use Rattle.std.specs.Prelude.{◌≡◌, ◌<◌, All, IfOk, IfSome, IfNone, OnOk, length, map, take};
 ghost use Rattle.std.specs.List.{AllZip};
+ghost use Rattle.weave_laws.specs.Answered.{AllSent};
 ghost use Rattle.weave.specs.Cells.{HasNoPasses, HaveOwnNodes, IsLawful, histories, nodes};
 ghost use Rattle.overlay_harness.specs.Hand.{AllTookUpTo, IsDone, IsDoneAt, IsFrameOf, IsNext, ServedWhole, ends_after};
 ghost use Rattle.overlay_harness.specs.Once.{AllTookOnce};
@@ -17,7 +18,7 @@ use node_cell::{CellFault, NodeCell};
 use ring_math::OutOfMemory;
 use scenario_reader::Scenario;
 use std::alloc::Global;
-use weave::{Unread, unread};
+use weave::{Unread, all_read, unread};
 use wire_codec::encode;
 use wire_msg::Frame;
 
@@ -54,6 +55,7 @@ pub fn serve_by_hand(
     requires numbers { MayBeTold cells.old stage.now.actions.now }
     ensures whole { OnOk result (AllZip (ServedWhole (shown stage.now) (histories cells.new)) cells.old cells.new) }
     ensures once { AllTookOnce (histories cells.old) → OnOk result (AllTookOnce (histories cells.new)) }
+    ensures sent { AllSent (histories cells.old) → OnOk result (AllSent (histories cells.new)) }
     ensures nodes { nodes cells.new ≡ nodes cells.old }
     ensures lawful { OnOk result (All IsLawful cells.new) }
 {
@@ -92,8 +94,13 @@ pub fn hand_over_unread(
     ensures took { OnOk result (AllTookUpTo ends.now cells.old cells.new) }
     ensures done { OnOk result (AllZip (IsDone (histories cells.new)) ends.now cells.new) }
     ensures once { AllTookOnce (histories cells.old) → OnOk result (AllTookOnce (histories cells.new)) }
+    ensures sent { AllSent (histories cells.old) → OnOk result (AllSent (histories cells.new)) }
     ensures nodes { nodes cells.new ≡ nodes cells.old }
 {
+    // Mostly nothing is, which one look at all messages shows for all nodes.
+    if all_read(alloc, cells)? {
+        return Ok(());
+    }
     while let Some(waiting) = next_unread(alloc, cells, ends)? {
         let cell = &mut cells[waiting.place];
         cell.handle(alloc, waiting.frame.as_slice())?;

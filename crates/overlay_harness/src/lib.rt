@@ -9,16 +9,22 @@ mod enough;
 mod fault;
 mod hand;
 mod limits;
+mod rounds;
 mod runs;
 mod stage;
 mod telling;
+mod threaded;
 mod unfit;
+mod worker;
 
 pub use cells::new_cells;
 pub use fault::RunFault;
 pub use hand::{hand_over_unread, serve_by_hand};
 pub use limits::MOST_RUN_NODES;
-pub use runs::{cells_served_by_hand, run_by_hand, tested_run, woven_run};
+pub use runs::{cells_served_by_hand, run, run_by_hand, tested_run, woven_run};
 pub use stage::{Stage, stages};
 pub use telling::tell_all;
 pub use unfit::first_unfit_line;
+
+#[cfg(test)]
+mod tests;

@@ -1,22 +1,81 @@
 //! A whole run.
 
-ghost use Rattle.std.specs.Prelude.{◌≡◌, IfErr, IfOk, IfSome, None, OnOk};
+ghost use Rattle.std.specs.Prelude.{◌≡◌, ◌≤◌, IfErr, IfOk, IfNone, IfSome, None, OnOk, length};
 ghost use Rattle.overlay_harness.specs.Fault.{IsDueTo, first_unfit_line};
+ghost use Rattle.weave.specs.Cells.{histories};
 ghost use Rattle.overlay_harness.specs.Run.{IsRunOf};
-ghost use Rattle.overlay_harness.specs.Whole.{HaveKept, HaveRun, IsMemory};
+ghost use Rattle.overlay_harness.specs.Stages.{stages_of};
+ghost use Rattle.overlay_harness.specs.Tested.{FailTheTest};
+ghost use Rattle.overlay_harness.specs.declared.limits.TheConstants.{MOST_RUN_NODES};
+ghost use Rattle.overlay_harness.specs.Whole.{HaveKept, HaveRun};
 
 use crate::cells::{cells_law, new_cells};
 use crate::enough::{came_at_most, most_copies, noise_is_theirs};
 use crate::fault::RunFault;
 use crate::hand::serve_stages;
 use crate::stage::stages;
+use crate::threaded::cells_served_by_threads;
 use crate::unfit::first_unfit_line;
 use node_cell::{CellFault, NodeCell};
+use outside::Turnstile;
 use overlay_rules::Record;
 use ring_math::OutOfMemory;
 use scenario_reader::Scenario;
 use std::alloc::Global;
+use std::sync::Wait;
+use std::thread::Threads;
 use weave::{WeaveFault, weave};
+
+/// Runs a scenario: in each round of a stage, each node's cell is served by a thread of its own, which passes the turnstile before
+/// each frame. `NotForRun` comes exactly where the scenario has a line that a run can't have, and names the first, before anything
+/// runs; `OutOfMemory` may come in the place of a record.
+///
+/// Stamps are Lamport's, so what the threads did is woven into one record of them together. Where a stamp was spent, or a message
+/// came more often than it was put, the scenario is run by hand.
+pub fn run<R: Threads + Wait + Sync, T: Turnstile + Sync>(
+    rt: &R,
+    alloc: Global,
+    scenario: &Scenario,
+    turnstile: &T,
+) -> Result<Record, RunFault>
+    ensures run { IfOk result (IsRunOf scenario.now) }
+    ensures fit { OnOk result (first_unfit_line scenario.now ≡ None) }
+    ensures due { IfErr result (IsDueTo scenario.now) }
+{
+    refuse_unfit(scenario)?;
+    match run_by_threads(rt, alloc, scenario, turnstile)? {
+        Some(steps) => Ok(steps),
+        None => run_by_hand(alloc, scenario),
+    }
+}
+
+/// Refuses a scenario that can't be run.
+fn refuse_unfit(scenario: &Scenario) -> Result<(), RunFault>
+    ensures fit { OnOk result (first_unfit_line scenario.now ≡ None) }
+    ensures due { IfErr result (IsDueTo scenario.now) }
+{
+    match first_unfit_line(scenario) {
+        Some(line) => Err(RunFault::NotForRun { line }),
+        None => Ok(()),
+    }
+}
+
+/// The record of a run by threads, if no stamp was spent and nothing came more often than it could.
+fn run_by_threads<R: Threads + Wait + Sync, T: Turnstile + Sync>(
+    rt: &R,
+    alloc: Global,
+    scenario: &Scenario,
+    turnstile: &T,
+) -> Result<Option<Record>, OutOfMemory>
+    requires { length scenario.now.nodes ≤ MOST_RUN_NODES }
+    ensures { IfOk result (λ found. IfSome found (IsRunOf scenario.now)) }
+{
+    match cells_served_by_threads(rt, alloc, scenario, turnstile) {
+        Ok(cells) => tested_run(alloc, scenario, &cells),
+        Err(CellFault::Spent { .. }) => Ok(None),
+        Err(CellFault::OutOfMemory) => Err(OutOfMemory),
+    }
+}
 
 /// Runs a scenario by hand, on one thread. `NotForRun` comes exactly where the scenario has a line that a run can't have, and names
 /// the first; `OutOfMemory` may come in the place of a record.
@@ -29,17 +88,6 @@ pub fn run_by_hand(alloc: Global, scenario: &Scenario) -> Result<Record, RunFaul
     let cells = cells_served_by_hand(alloc, scenario)?;
     let steps = woven_run(alloc, scenario, &cells)?;
     Ok(steps)
-}
-
-/// Refuses a scenario that can't be run.
-fn refuse_unfit(scenario: &Scenario) -> Result<(), RunFault>
-    ensures fit { OnOk result (first_unfit_line scenario.now ≡ None) }
-    ensures due { IfErr result (IsDueTo scenario.now) }
-{
-    match first_unfit_line(scenario) {
-        Some(line) => Err(RunFault::NotForRun { line }),
-        None => Ok(()),
-    }
 }
 
 /// The cells of a scenario, made anew, to which every stage was served by hand.
@@ -65,7 +113,8 @@ pub fn woven_run(
     let _founder = scenario.founder();
     match weave(alloc, cells) {
         Ok(steps) => Ok(steps),
-        Err(fault) => Err(only_memory(fault)),
+        Err(WeaveFault::OutOfMemory) => Err(OutOfMemory),
+        Err(WeaveFault::Stray { .. }) => unreachable!(),
     }
 }
 
@@ -77,16 +126,16 @@ pub fn tested_run(
     cells: &[NodeCell],
 ) -> Result<Option<Record>, OutOfMemory>
     requires { HaveKept scenario.now cells.now }
-    ensures { IfOk result (λ found. IfSome found (IsRunOf scenario.now)) }
+    ensures some { IfOk result (λ found. IfSome found (IsRunOf scenario.now)) }
+    ensures none { IfOk result (λ found. IfNone found (FailTheTest (stages_of scenario.now) (histories cells.now))) }
 {
     cells_law(cells);
     let _founder = scenario.founder();
     let all = stages(alloc, scenario)?;
-    let woven = weave(alloc, cells);
-    let steps = match woven {
+    let steps = match weave(alloc, cells) {
         Ok(steps) => steps,
-        Err(WeaveFault::Stray { .. }) => return Ok(None),
         Err(WeaveFault::OutOfMemory) => return Err(OutOfMemory),
+        Err(WeaveFault::Stray { .. }) => unreachable!(),
     };
     if !noise_is_theirs(cells, &all) {
         return Ok(None);
@@ -95,12 +144,4 @@ pub fn tested_run(
         return Ok(None);
     }
     Ok(Some(steps))
-}
-
-/// Want of memory, where nothing else can be the fault.
-fn only_memory(fault: WeaveFault) -> OutOfMemory
-    requires { IsMemory fault }
-{
-    let _ = fault;
-    OutOfMemory
 }

@@ -46,14 +46,14 @@ fn tell(alloc: Global, cells: &mut [NodeCell], action: &Action) -> Result<(), Ce
 
 /// A command, with its number and node.
 #[derive(Clone, Copy)]
-struct Said<'a> {
-    number: u64,
-    node: Id,
-    command: &'a Command,
+pub(crate) struct Said<'a> {
+    pub(crate) number: u64,
+    pub(crate) node: Id,
+    pub(crate) command: &'a Command,
 }
 
 /// The command that an action is.
-fn command_in(what: &What) -> Option<Said<'_>>
+pub(crate) fn command_in(what: &What) -> Option<Said<'_>>
     ensures some { IfSome result (λ s. what.now ≡ said.Command s.number s.node s.command.now) }
     ensures none { IfNone result ((x : _) → said_to x what.now ≡ []) }
 {

@@ -1,4 +1,4 @@
-use Rattle.std.proofs.Common.{◌∙◌, ◌<◌, ℕ, Option, IfSome, List, get_or, length, sym, subst, ap}
+use Rattle.std.proofs.Common.{◌∙◌, ◌<◌, inr, ℕ, Option, IfSome, List, get_or, length, sym, subst, ap}
 use Rattle.std.proofs.lemmas.Option.{slice_get-get_or}
 use Rattle.overlay_rules.specs.Record.{all_differ}
 use Rattle.overlay_rules.proofs.Each.{Each-all, Each-from_all}
@@ -7,7 +7,7 @@ use Rattle.node_cell.specs.Taken.{TookBytes}
 use Rattle.weave.specs.Cells.{HasNoPasses}
 use Rattle.overlay_harness.specs.Hand.{IsNext}
 use Rattle.overlay_harness.specs.declared.hand.Waiting.{Waiting}
-use Rattle.overlay_harness.proofs.HandOver.{WasHanded, handed_at_first, handed_less, handed_more}
+use Rattle.overlay_harness.proofs.HandOver.{WasHanded, all_done, handed_at_first, handed_less, handed_more, none_yet}
 use Rattle.overlay_harness.proofs.Without.{took_without}
 use Rattle.overlay_harness.proofs.hand.hand_over_unread.Goals as goal
 
@@ -53,3 +53,11 @@ pub loop-waiting-preserved : goal.loop-waiting-preserved
 loop-waiting-preserved c =
     handed_more c.args.ends.now c.args.cells.now c.loop-waiting.cells c.in-Some.waiting.place c.in-Some.waiting.frame
     (get_or c.loop-waiting.cells c.in-Some.waiting.place c.index-cells-waiting.result) c.handle.new.self c.loop-waiting.invariant (handed c)
+
+pub returns-then-branch-clause-took : goal.returns-then-branch-clause-took
+returns-then-branch-clause-took c = none_yet c.args.ends.now c.args.cells.now c.requires.each
+
+pub returns-then-branch-clause-done : goal.returns-then-branch-clause-done
+returns-then-branch-clause-done c =
+    all_done c.args.cells.now c.args.ends.now c.requires.each
+    (λ p lt. record { done = λ d n there is. inr (c.in_ok-all_read.ensures.yes c.if-branch.true d.node) })

@@ -2,12 +2,14 @@ use Rattle.std.proofs.Common.{◌≡◌, ◌∙◌, ℕ, List, All, map, sym, su
 use Rattle.std.specs.List.{AllZip}
 use Rattle.node_cell.specs.Cell.{Cell}
 use Rattle.scenario_reader.specs.declared.action.Action.{Action}
+use Rattle.weave_laws.specs.Answered.{AllSent}
 use Rattle.weave.specs.Cells.{HasNoPasses, histories}
 use Rattle.overlay_harness.specs.Hand.{AllTookUpTo, IsDone, ends_after}
 use Rattle.overlay_harness.specs.Once.{AllTookOnce}
 use Rattle.overlay_harness.specs.Shown.{shown}
 use Rattle.overlay_harness.specs.Work.{told}
 use Rattle.overlay_harness.proofs.Without.{told_without}
+use Rattle.overlay_harness.proofs.Sendings.{all_sent-told}
 use Rattle.overlay_harness.proofs.Serving.{all_told_once, whole_stage}
 use Rattle.overlay_harness.proofs.hand.serve_by_hand.Goals as goal
 
@@ -34,3 +36,9 @@ returns-clause-once c = λ once.
     c.in_ok-hand_over_unread.ensures.once
     (subst (λ (ds : List Cell). AllTookOnce (histories ds)) (sym c.in_ok-tell_all.ensures.told)
     (all_told_once c.args.stage.now.actions.now c.args.cells.now once))
+
+pub returns-clause-sent : goal.returns-clause-sent
+returns-clause-sent c = λ sent.
+    c.in_ok-hand_over_unread.ensures.sent
+    (subst (λ (ds : List Cell). AllSent (histories ds)) (sym c.in_ok-tell_all.ensures.told)
+    (all_sent-told c.args.stage.now.actions.now c.args.cells.now sent))

@@ -24,6 +24,7 @@ loop-place-preserved c =
           (record { stages = c.requires.stages; within = c.loop-place-test.true; there = c.index-stages-place.is }) c.loop-place.invariant.served
           (record {
             whole = c.in_ok-serve_by_hand.ensures.whole;
+            sent = c.in_ok-serve_by_hand.ensures.sent;
             nodes_are = c.serve_by_hand.ensures.nodes;
             lawful = c.in_ok-serve_by_hand.ensures.lawful;
           });

@@ -1,11 +1,11 @@
-use Rattle.std.proofs.Common.{◌≡◌, ◌≤◌, ◌+◌, ◌*◌, ◌++◌, ◌∷◌, [], ℕ, List, map, take, sym, subst, ap, ◌∙◌, arith}
+use Rattle.std.proofs.Common.{◌≡◌, ◌+◌, ◌-◌, ◌*◌, ◌++◌, ◌∷◌, [], ℕ, List, map, take, sym, ap, ◌∙◌, arith}
 use Rattle.std.proofs.Math.Nat.{mul_comm}
 use Rattle.std.proofs.lemmas.List.{map_more, take_all}
 use Rattle.overlay_harness.specs.declared.stage.Stage.{Stage as CodeStage}
 use Rattle.overlay_harness.specs.Shown.{shown}
 use Rattle.overlay_harness.specs.Stages.{noise_for}
 use Rattle.overlay_harness.proofs.Counting.{noise_for-push}
-use Rattle.overlay_harness.proofs.enough.noise_for.Goals as goal
+use Rattle.overlay_harness.proofs.enough.noise_past.Goals as goal
 
 pub loop-stage-preserved : goal.loop-stage-preserved
 loop-stage-preserved c =
@@ -24,5 +24,6 @@ loop-stage-preserved c =
 
 pub returns : goal.returns
 returns c =
-    subst (λ (codes : List CodeStage). c.loop-stage.most ≤ noise_for c.args.node (map shown codes))
-    (take_all c.loop-stage.stage-index c.args.stages.now (omega arith)) c.loop-stage.invariant
+    c.loop-stage.invariant
+    ∙ ap (λ (codes : List CodeStage). c.args.came - noise_for c.args.node (map shown codes))
+    (take_all c.loop-stage.stage-index c.args.stages.now (omega arith))

@@ -1,7 +1,0 @@
-use Rattle.std.proofs.Common.{◌≤◌, map, take}
-use Rattle.overlay_harness.specs.Shown.{shown}
-use Rattle.overlay_harness.specs.Stages.{noise_for}
-use Rattle.overlay_harness.proofs.enough.noise_for.Given as goal
-
-abbrev pub invariant-loop-stage : goal.invariant-loop-stage
-invariant-loop-stage l = l.most ≤ noise_for l.node (map shown (take l.stage-index l.stages))

@@ -1,0 +1,6 @@
+use Rattle.node_mailbox.specs.Post.{AreOf}
+use Rattle.overlay_harness.specs.Driven.{PutNoise}
+use Rattle.overlay_harness.proofs.threaded.put_copies.Given as goal
+
+abbrev pub invariant-loop : goal.invariant-loop
+invariant-loop g l = record { of : AreOf l.own l.post; noise : PutNoise l.fn.own l.own }

@@ -1,0 +1,308 @@
+//! Stages, lines that can't be run, and runs of small scenarios by hand and by threads. What is expected is read off the rules of
+//! the scenario language and of nodes.
+
+ghost use Rattle.std.specs.Prelude.{◌≡◌, ◌<◌, None};
+
+use crate::enough::{came_at_most, noise_is_theirs};
+use crate::hand::ends_after;
+use crate::{
+    RunFault, cells_served_by_hand, first_unfit_line, hand_over_unread, run, run_by_hand, stages,
+};
+use node_cell::{CellFault, NodeCell};
+use outside::{FreePass, Turnstile};
+use overlay_rules::{EntryRef, EventRef, Record};
+use ring_math::Id;
+use scenario_reader::read_scenario;
+use schedule::make_scenario;
+use std::alloc::Global;
+use std::sync::atomic::{AtomicBool, Ordering};
+use std::test::Fail;
+use std::thread::yield_now;
+use wire_msg::{Answer, Note, Reply};
+
+/// Three stages: the last has no settle, and each has the copies of the last dup up to its end.
+const STAGED: &[u8] =
+    b"node A 10000000000000000000000000000000\nfirst A\ndup 2\nlookup A 00000000000000000000000000000001\nsettle 3\ndup 3\ndup 4\nsettle 0\nlookup A 00000000000000000000000000000002\n";
+
+/// One node, which delivers a lookup to itself.
+const LEAST: &[u8] =
+    b"node A 10000000000000000000000000000000\nfirst A\nlookup A ff000000000000000000000000000000\nsettle 10\n";
+
+/// Two nodes join; three files are stored and fetched.
+const THREADED: &[u8] =
+    b"node A 10000000000000000000000000000000\nnode B 90000000000000000000000000000000\nnode C 30000000000000000000000000000000\nfile f 66 - 0000000000000000 61\nfile g 67 - 0000000000000000 62\nfile h 68 - 0000000000000000 63\nfirst A\ndup 2\njoin B A\nsettle 1000\njoin C B\nsettle 1000\ninsert A f 1\ninsert B g 2\ninsert C h 3\nsettle 1000\nfetch A f\nfetch B g\nfetch C h\nsettle 1000\n";
+
+/// A node joins, with a budget of one frame for each node.
+const HURRIED: &[u8] =
+    b"node A 10000000000000000000000000000000\nnode B 90000000000000000000000000000000\nfirst A\njoin B A\nsettle 1\n";
+
+/// Noise comes to the first node twice in a stage of two copies, and to both in a stage of three.
+const NOISY: &[u8] =
+    b"node A 10000000000000000000000000000000\nnode B 90000000000000000000000000000000\nfirst A\ndup 2\nnoise A 00\nnoise A -\nsettle 9\nnoise B 01\nnoise A 02\ndup 3\nsettle 9\n";
+
+/// Noise that comes to the only node once.
+const NOISY_ONCE: &[u8] =
+    b"node A 10000000000000000000000000000000\nfirst A\nnoise A 00\nsettle 9\n";
+
+/// A shuffle, and then a deliver.
+const CHOOSING: &[u8] =
+    b"node A 10000000000000000000000000000000\nfirst A\nsettle 1\nshuffle 1 2\ndeliver 0\n";
+
+/// For each stage, how many actions it has, its budget and its copies.
+fn shapes(alloc: Global, input: &[u8]) -> Result<Vec<(usize, u32, u8)>, Fail> {
+    let scenario = read_scenario(alloc, input)?;
+    let mut shapes = Vec::new(alloc);
+    for stage in &stages(alloc, &scenario)? {
+        shapes.push((stage.actions.len(), stage.budget, stage.copies))?;
+    }
+    Ok(shapes)
+}
+
+#[test]
+fn stages_end_with_a_settle(rt: HostRuntime) -> Result<(), Fail> {
+    let shapes = shapes(rt.alloc(), STAGED)?;
+    assert!(rt; shapes.iter().copied().eq([(3, 3, 2), (3, 0, 4), (1, 0, 4)]));
+    Ok(())
+}
+
+#[test]
+fn the_first_unfit_line_is_found(rt: HostRuntime) -> Result<(), Fail> {
+    let choosing = read_scenario(rt.alloc(), CHOOSING)?;
+    assert_eq!(rt; first_unfit_line(&choosing), Some(4));
+    let least = read_scenario(rt.alloc(), LEAST)?;
+    assert_eq!(rt; first_unfit_line(&least), None);
+    Ok(())
+}
+
+/// 64 nodes, 20 files and the founder's line stand before three joins and a shuffle.
+#[test]
+fn the_node_that_is_one_too_many_is_found(rt: HostRuntime) -> Result<(), Fail> {
+    let few = make_scenario(rt.alloc(), 64, 7)?;
+    assert_eq!(rt; first_unfit_line(&few), Some(89));
+    let many = make_scenario(rt.alloc(), 65, 7)?;
+    assert_eq!(rt; first_unfit_line(&many), Some(65));
+    Ok(())
+}
+
+#[test]
+fn what_chooses_messages_is_not_run(rt: HostRuntime) -> Result<(), Fail> {
+    let choosing = read_scenario(rt.alloc(), CHOOSING)?;
+    let refused = run_by_hand(rt.alloc(), &choosing);
+    assert!(rt; matches!(refused, Err(RunFault::NotForRun { line: 4 })));
+    Ok(())
+}
+
+#[test]
+fn one_node_runs_alone(rt: HostRuntime) -> Result<(), Fail> {
+    let least = read_scenario(rt.alloc(), LEAST)?;
+    let steps = run_by_hand(rt.alloc(), &least)?;
+    assert_eq!(rt; steps.entries.len(), 2);
+    assert_eq!(rt; steps.entries.sent().len(), 1);
+    Ok(())
+}
+
+fn is_joined(note: &Note) -> bool {
+    matches!(
+        note,
+        Note::Closed {
+            answer: Answer::Joined { .. },
+            ..
+        }
+    )
+}
+
+fn is_stored(note: &Note) -> bool {
+    matches!(
+        note,
+        Note::Closed {
+            answer: Answer::Reply(Reply::Stored { .. }),
+            ..
+        }
+    )
+}
+
+fn is_found(note: &Note) -> bool {
+    matches!(
+        note,
+        Note::Closed {
+            answer: Answer::Reply(Reply::Found { .. }),
+            ..
+        }
+    )
+}
+
+/// By hand each message comes once, and none is left: eight commands, and each message.
+#[test]
+fn three_nodes_run_by_hand(rt: HostRuntime) -> Result<(), Fail> {
+    let threaded = read_scenario(rt.alloc(), THREADED)?;
+    let steps = run_by_hand(rt.alloc(), &threaded)?;
+    let notes = steps.entries.notes();
+    assert_eq!(rt; notes.iter().filter(|note| is_joined(note)).count(), 2);
+    assert_eq!(rt; notes.iter().filter(|note| is_stored(note)).count(), 3);
+    assert_eq!(rt; notes.iter().filter(|note| is_found(note)).count(), 3);
+    assert_eq!(rt;
+        steps.entries.len(),
+        steps.entries.sent().len().saturating_add(8)
+    );
+    Ok(())
+}
+
+/// By threads each message comes twice, as often as it is put.
+#[test]
+fn three_nodes_run_by_threads(rt: HostRuntime) -> Result<(), Fail> {
+    let threaded = read_scenario(rt.alloc(), THREADED)?;
+    let steps = run(&rt, rt.alloc(), &threaded, &FreePass)?;
+    let notes = steps.entries.notes();
+    assert_eq!(rt; notes.iter().filter(|note| is_joined(note)).count(), 2);
+    assert_eq!(rt; notes.iter().filter(|note| is_stored(note)).count(), 3);
+    assert_eq!(rt; notes.iter().filter(|note| is_found(note)).count(), 3);
+    let sent = steps.entries.sent().len();
+    assert_eq!(rt;
+        steps.entries.len(),
+        sent.saturating_mul(2).saturating_add(8)
+    );
+    Ok(())
+}
+
+/// How often a thread looks for the other's mark.
+const MOST_LOOKS: u32 = 10_000_000;
+
+/// Where two threads meet at their first turn, each of which then sees the other's mark.
+#[derive(Drop)]
+struct Meeting {
+    came: [AtomicBool; 2],
+    saw: [AtomicBool; 2],
+}
+
+impl Turnstile for Meeting {
+    fn pass(&self, node: usize, turn: u64) {
+        if turn == 0 && node < 2 {
+            self.came[node].store(true, Ordering::SeqCst);
+            self.look(node);
+        }
+    }
+}
+
+impl Meeting {
+    fn look(&self, node: usize)
+        requires { node < 2 }
+    {
+        for _ in 0..MOST_LOOKS {
+            if self.came[1 - node].load(Ordering::SeqCst) {
+                self.saw[node].store(true, Ordering::SeqCst);
+                return;
+            }
+            yield_now();
+        }
+    }
+}
+
+/// Served one after the other, the first would look for the second in vain.
+#[test]
+fn two_nodes_meet(rt: HostRuntime) -> Result<(), Fail> {
+    let hurried = read_scenario(rt.alloc(), HURRIED)?;
+    let meeting = Meeting {
+        came: [AtomicBool::new(false), AtomicBool::new(false)],
+        saw: [AtomicBool::new(false), AtomicBool::new(false)],
+    };
+    run(&rt, rt.alloc(), &hurried, &meeting)?;
+    assert!(rt; meeting.saw[0].load(Ordering::SeqCst));
+    assert!(rt; meeting.saw[1].load(Ordering::SeqCst));
+    Ok(())
+}
+
+/// How many entries all histories have.
+fn entries(cells: &[NodeCell]) -> usize {
+    let mut count: usize = 0;
+    for cell in cells {
+        count = count.saturating_add(cell.history().len());
+    }
+    count
+}
+
+/// The request for the join, and the answer: each node took one frame. All eight messages of the join come late.
+#[test]
+fn what_is_left_is_handed_over_late(rt: HostRuntime) -> Result<(), Fail> {
+    let hurried = read_scenario(rt.alloc(), HURRIED)?;
+    let mut cells = cells_served_by_hand(rt.alloc(), &hurried)?;
+    assert_eq!(rt; entries(&cells), 3);
+    let ends = ends_after(rt.alloc(), &cells, 10)?;
+    hand_over_unread(rt.alloc(), &mut cells, &ends)?;
+    assert_eq!(rt; entries(&cells), 9);
+    Ok(())
+}
+
+fn is_noise(entry: &EntryRef) -> bool {
+    matches!(entry.event, EventRef::Noise { .. })
+}
+
+/// How often noise came in a record.
+fn noise_in(steps: &Record) -> usize {
+    let mut count: usize = 0;
+    for place in 0..steps.entries.len() {
+        if is_noise(&steps.entries.at(place)) {
+            count = count.saturating_add(1);
+        }
+    }
+    count
+}
+
+/// Two noises twice, and two three times.
+#[test]
+fn noise_comes_as_often_as_it_is_put(rt: HostRuntime) -> Result<(), Fail> {
+    let noisy = read_scenario(rt.alloc(), NOISY)?;
+    let steps = run(&rt, rt.alloc(), &noisy, &FreePass)?;
+    assert_eq!(rt; steps.entries.len(), 10);
+    assert_eq!(rt; noise_in(&steps), 10);
+    Ok(())
+}
+
+/// What the stages have for each node is put by threads alone.
+#[test]
+fn no_noise_comes_by_hand(rt: HostRuntime) -> Result<(), Fail> {
+    let noisy = read_scenario(rt.alloc(), NOISY)?;
+    let steps = run_by_hand(rt.alloc(), &noisy)?;
+    assert_eq!(rt; steps.entries.len(), 0);
+    Ok(())
+}
+
+/// Bytes that are no frame come to the cell.
+fn take_noise(cell: &mut NodeCell, alloc: Global) -> Result<(), CellFault>
+    requires { cell.old.carried ≡ None }
+    ensures { cell.new.carried ≡ None }
+{
+    cell.handle(alloc, &[])
+}
+
+fn with_it(alloc: Global, cell: NodeCell) -> Result<Vec<NodeCell>, Fail> {
+    let mut cells = Vec::new(alloc);
+    cells.push(cell)?;
+    Ok(cells)
+}
+
+/// A frame that a mailbox hands out twice would come to this.
+#[test]
+fn noise_that_comes_too_often_is_found(rt: HostRuntime) -> Result<(), Fail> {
+    let noisy = read_scenario(rt.alloc(), NOISY_ONCE)?;
+    let stages = stages(rt.alloc(), &noisy)?;
+    let mut once = NodeCell::new(rt.alloc(), Id(0x10 << 120), true)?;
+    take_noise(&mut once, rt.alloc())?;
+    let mut twice = NodeCell::new(rt.alloc(), Id(0x10 << 120), true)?;
+    take_noise(&mut twice, rt.alloc())?;
+    take_noise(&mut twice, rt.alloc())?;
+    let once = with_it(rt.alloc(), once)?;
+    assert!(rt; noise_is_theirs(&once, &stages));
+    let twice = with_it(rt.alloc(), twice)?;
+    assert!(rt; !noise_is_theirs(&twice, &stages));
+    Ok(())
+}
+
+/// Where each message came twice, that is not more often than twice, and more often than once.
+#[test]
+fn copies_are_counted(rt: HostRuntime) -> Result<(), Fail> {
+    let threaded = read_scenario(rt.alloc(), THREADED)?;
+    let steps = run(&rt, rt.alloc(), &threaded, &FreePass)?;
+    assert!(rt; came_at_most(rt.alloc(), &steps.entries, 2)?);
+    assert!(rt; !came_at_most(rt.alloc(), &steps.entries, 1)?);
+    Ok(())
+}

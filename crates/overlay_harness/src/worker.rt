@@ -1,0 +1,248 @@
+//! One node's cell in a run, and what the thread does to which it is lent.
+
+ghost use Rattle.std.specs.Prelude.{◌≡◌, ◌≢◌, ◌<◌, ◌≤◌, ◌∷◌, [], true, None, IfOk, IfNone, IfSome, OnOk};
+ghost use Rattle.scenario_reader.specs.declared.action.What.TheVariants as said;
+ghost use Rattle.node_cell.specs.Equipped.{GoesOn, HasPassesOf};
+ghost use Rattle.overlay_harness.specs.Rounds.{IsAtWork, ServedIn, ServedUnlessStopped, WentOn, WentOnUnlessStopped};
+ghost use Rattle.overlay_harness.specs.Shown.{shown};
+ghost use Rattle.overlay_harness.specs.Stages.{said_to};
+ghost use Rattle.overlay_harness.specs.Work.{MayBeTold, told};
+
+use crate::stage::Stage;
+use crate::telling::{Said, command_in};
+use node_cell::{CellFault, NodeCell};
+use node_mailbox::Post;
+use outside::Turnstile;
+use ring_math::{Id, OutOfMemory};
+use scenario_reader::{Action, What};
+use std::alloc::Global;
+use std::sync::Wait;
+use std::sync::atomic::{AtomicBool, AtomicUsize, Ordering};
+use std::thread::yield_now;
+
+/// A node's cell in a run, with what its thread has to know and to tell.
+#[derive(Drop)]
+pub(crate) struct Worker {
+    pub(crate) cell: NodeCell,
+    /// How many frames its node may still take in this stage.
+    pub(crate) left: u32,
+    /// How often its thread passed the turnstile.
+    pub(crate) turns: u64,
+    /// Why its thread could not go on.
+    pub(crate) fault: Option<CellFault>,
+}
+
+/// What all threads of a run share.
+#[derive(Drop)]
+pub(crate) struct Hall<'a, T> {
+    pub(crate) post: &'a Post,
+    pub(crate) turnstile: &'a T,
+    /// Set once a thread was refused memory: then none takes another frame.
+    pub(crate) refused: &'a AtomicBool,
+    /// How many threads of this round found their mailboxes empty.
+    pub(crate) idle: &'a AtomicUsize,
+    /// How many threads there are.
+    pub(crate) threads: usize,
+}
+
+/// How often a thread looks again before it takes its mailbox for empty, while other threads of the round still work. To start a
+/// round costs more than to look.
+const MOST_LOOKS: u32 = 50;
+
+/// The work of a thread in the first round of a stage: it submits the commands to its node, and then serves.
+pub(crate) fn begin_stage<R: Wait, T: Turnstile>(
+    rt: &R,
+    alloc: Global,
+    hall: &Hall<'_, T>,
+    stage: &Stage<'_>,
+    place: usize,
+    worker: &mut Worker,
+)
+    requires at_work { IsAtWork hall.now.post.now worker.old.cell }
+    requires numbers { MayBeTold (worker.old.cell ∷ []) stage.now.actions.now }
+    requires copies { (1 ≤ stage.now.copies) × (stage.now.copies ≤ 4) }
+    ensures { ServedUnlessStopped hall.now.post.now (shown stage.now) worker.old worker.new }
+{
+    match serve_stage(rt, alloc, hall, stage, place, worker) {
+        Ok(()) => {}
+        Err(fault) => stop(hall.refused, worker, fault),
+    }
+}
+
+/// The work of a thread in a later round: it puts what its cell still has unsent, and then serves.
+pub(crate) fn go_on<R: Wait, T: Turnstile>(
+    rt: &R,
+    alloc: Global,
+    hall: &Hall<'_, T>,
+    copies: u8,
+    place: usize,
+    worker: &mut Worker,
+)
+    requires at_work { IsAtWork hall.now.post.now worker.old.cell }
+    requires copies { (1 ≤ copies) × (copies ≤ 4) }
+    ensures { WentOnUnlessStopped hall.now.post.now worker.old worker.new }
+{
+    match serve_left(rt, alloc, hall, copies, place, worker) {
+        Ok(()) => {}
+        Err(fault) => stop(hall.refused, worker, fault),
+    }
+}
+
+/// Keeps why a thread stopped. Where it was refused memory, the others are to stop too.
+fn stop(refused: &AtomicBool, worker: &mut Worker, fault: CellFault)
+    ensures { worker.new.fault ≢ None }
+{
+    if fault == CellFault::OutOfMemory {
+        refused.store(true, Ordering::SeqCst);
+    }
+    worker.fault = Some(fault);
+}
+
+fn serve_stage<R: Wait, T: Turnstile>(
+    rt: &R,
+    alloc: Global,
+    hall: &Hall<'_, T>,
+    stage: &Stage<'_>,
+    place: usize,
+    worker: &mut Worker,
+) -> Result<(), CellFault>
+    requires at_work { IsAtWork hall.now.post.now worker.old.cell }
+    requires numbers { MayBeTold (worker.old.cell ∷ []) stage.now.actions.now }
+    requires copies { (1 ≤ stage.now.copies) × (stage.now.copies ≤ 4) }
+    ensures { OnOk result (ServedIn hall.now.post.now (shown stage.now) worker.old worker.new) }
+{
+    tell_own(alloc, &mut worker.cell, stage.actions)?;
+    worker.left = stage.budget;
+    serve_left(rt, alloc, hall, stage.copies, place, worker)
+}
+
+/// Submits the commands to a cell's own node among these actions, in order.
+pub(crate) fn tell_own(
+    alloc: Global,
+    cell: &mut NodeCell,
+    actions: &[Action],
+) -> Result<(), CellFault>
+    requires { MayBeTold (cell.old ∷ []) actions.now }
+    ensures { OnOk result (cell.new ≡ told actions.now cell.old) }
+{
+    for action in actions {
+        tell_one(alloc, cell, action)?;
+    }
+    Ok(())
+}
+
+fn tell_one(alloc: Global, cell: &mut NodeCell, action: &Action) -> Result<(), CellFault>
+    requires { MayBeTold (cell.old ∷ []) (action.now ∷ []) }
+    ensures { OnOk result (cell.new ≡ told (action.now ∷ []) cell.old) }
+{
+    let Some(said) = command_to(cell.me(), &action.what) else {
+        return Ok(());
+    };
+    cell.submit(alloc, said.number, said.command)?;
+    Ok(())
+}
+
+/// The command that an action is, if it is one to this node.
+fn command_to(node: Id, what: &What) -> Option<Said<'_>>
+    ensures some { IfSome result (λ s. what.now ≡ said.Command s.number node s.command.now) }
+    ensures none { IfNone result (said_to node what.now ≡ []) }
+{
+    match command_in(what) {
+        Some(said) if said.node == node => Some(said),
+        _ => None,
+    }
+}
+
+/// Puts what the cell has unsent, and takes one frame after another, as many as are left to the node, until its mailbox is empty.
+/// What a frame has the cell send is put before the next is taken.
+fn serve_left<R: Wait, T: Turnstile>(
+    rt: &R,
+    alloc: Global,
+    hall: &Hall<'_, T>,
+    copies: u8,
+    place: usize,
+    worker: &mut Worker,
+) -> Result<(), CellFault>
+    requires at_work { IsAtWork hall.now.post.now worker.old.cell }
+    requires copies { (1 ≤ copies) × (copies ≤ 4) }
+    ensures { OnOk result (WentOn hall.now.post.now worker.old worker.new) }
+{
+    post_all(rt, alloc, hall.post, &mut worker.cell, copies)?;
+    while worker.left > 0 && !hall.refused.load(Ordering::SeqCst) {
+        hall.turnstile.pass(place, worker.turns);
+        worker.turns = worker.turns.saturating_add(1);
+        if !serve_patiently(rt, alloc, hall, worker)? {
+            return Ok(());
+        }
+        post_all(rt, alloc, hall.post, &mut worker.cell, copies)?;
+    }
+    Ok(())
+}
+
+/// Serves one frame, and looks again for one while other threads work.
+fn serve_patiently<R: Wait, T: Turnstile>(
+    rt: &R,
+    alloc: Global,
+    hall: &Hall<'_, T>,
+    worker: &mut Worker,
+) -> Result<bool, CellFault>
+    requires { IsAtWork hall.now.post.now worker.old.cell }
+    ensures went_on { OnOk result (WentOn hall.now.post.now worker.old worker.new) }
+    ensures less { IfOk result (λ served. served ≡ true → worker.new.left < worker.old.left) }
+{
+    if serve_once(rt, alloc, hall.post, worker)? {
+        return Ok(true);
+    }
+    hall.idle.fetch_add(1, Ordering::SeqCst);
+    for _ in 0..MOST_LOOKS {
+        if hall.idle.load(Ordering::SeqCst) >= hall.threads {
+            return Ok(false);
+        }
+        yield_now();
+        if serve_once(rt, alloc, hall.post, worker)? {
+            hall.idle.fetch_sub(1, Ordering::SeqCst);
+            return Ok(true);
+        }
+    }
+    Ok(false)
+}
+
+/// Serves one frame, if one is left to the node and its mailbox has one.
+pub(crate) fn serve_once<R: Wait>(
+    rt: &R,
+    alloc: Global,
+    post: &Post,
+    worker: &mut Worker,
+) -> Result<bool, CellFault>
+    requires { IsAtWork post.now worker.old.cell }
+    ensures went_on { OnOk result (WentOn post.now worker.old worker.new) }
+    ensures less { IfOk result (λ served. served ≡ true → worker.new.left < worker.old.left) }
+{
+    if worker.left == 0 {
+        return Ok(false);
+    }
+    if !worker.cell.serve(rt, alloc, post)? {
+        return Ok(false);
+    }
+    worker.left -= 1;
+    Ok(true)
+}
+
+/// Puts all frames that the cell has unsent, each so many times.
+fn post_all<R: Wait>(
+    rt: &R,
+    alloc: Global,
+    post: &Post,
+    cell: &mut NodeCell,
+    copies: u8,
+) -> Result<(), OutOfMemory>
+    requires passes { HasPassesOf post.now cell.old }
+    requires copies { (1 ≤ copies) × (copies ≤ 4) }
+    ensures passes { OnOk result (HasPassesOf post.now cell.new) }
+    ensures goes_on { OnOk result (GoesOn cell.old cell.new) }
+    ensures history { OnOk result (cell.new.history ≡ cell.old.history) }
+    ensures all { OnOk result (cell.new.unsent ≡ []) }
+{
+    while cell.post_one(rt, alloc, post, copies)? {}
+    Ok(())
+}
