@@ -1,0 +1,3 @@
+pub mod Texts
+pub mod Talk
+pub mod Steps
