@@ -50,7 +50,7 @@ fn seed_arg<'a>(alloc: Global) -> Arg<'a>
         .default_value(DEFAULT_SEED_TEXT)
 }
 
-/// How many files an access point remembers. It has no effect in the modes that are built.
+/// How many files an access point remembers.
 fn room_arg<'a>(alloc: Global) -> Arg<'a>
     ensures rule { rule_of result ≡ room_rule }
     ensures local { result.global ≡ false }

@@ -13,6 +13,8 @@ pub enum Mode {
     Trace,
     /// Reads a trace and writes whether its record is legal.
     Check,
+    /// Plays a scenario with an access point at each node that remembers up to so many files, 1 to 4,096, and writes its report.
+    Points { room: usize },
     /// Plays the scenario that is made of so many nodes, 2 to 256, a seed, and a large file of so many bytes, at most 835,584,
     /// and writes what became of the file.
     Large { nodes: u32, seed: u64, size: u32 },

@@ -6,7 +6,7 @@ ghost use Rattle.cli_words.specs.Command.{mode_named};
 use crate::mode::Mode;
 
 /// The names of the modes, each of which [`mode_named`] knows.
-pub(crate) static MODES: [&str; 6] = ["play", "big", "trace", "check", "large", "messages"];
+pub(crate) static MODES: [&str; 7] = ["play", "big", "trace", "check", "points", "large", "messages"];
 
 /// The numbers of the options, given or not.
 #[derive(Clone, Copy)]
@@ -22,13 +22,19 @@ pub(crate) fn mode_named(name: &str, numbers: Numbers) -> Option<Mode>
     ensures { result ≡ mode_named numbers name.entry.now }
 {
     let Numbers {
-        nodes, seed, size, ..
+        nodes,
+        seed,
+        room,
+        size,
     } = numbers;
     match name {
         "play" => Some(Mode::Play),
         "big" => Some(Mode::Big { nodes, seed }),
         "trace" => Some(Mode::Trace),
         "check" => Some(Mode::Check),
+        "points" => Some(Mode::Points {
+            room: room as usize,
+        }),
         "large" => Some(Mode::Large { nodes, seed, size }),
         "messages" => Some(Mode::Messages),
         _ => None,

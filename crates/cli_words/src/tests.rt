@@ -42,7 +42,15 @@ fn reads_plain_words(rt: HostRuntime) -> Result<(), Fail> {
 }
 
 #[test]
-fn reads_the_size(rt: HostRuntime) -> Result<(), Fail> {
+fn reads_the_room_and_the_size(rt: HostRuntime) -> Result<(), Fail> {
+    assert_eq!(rt;
+        read(&rt, &["pastry", "points"])?,
+        Ok(Mode::Points { room: 16 })
+    );
+    assert_eq!(rt;
+        read(&rt, &["pastry", "points", "--room", "4096"])?,
+        Ok(Mode::Points { room: 4096 })
+    );
     let large = Mode::Large {
         nodes: 12,
         seed: 7,
@@ -77,8 +85,8 @@ fn refuses_other_words(rt: HostRuntime) -> Result<(), Fail> {
         &["pastry", "big", "--nodes", "257"],
         &["pastry", "big", "--nodes=9", "--nodes=9"],
         &["pastry", "big", "--seed", "18446744073709551616"],
-        &["pastry", "play", "--room", "0"],
-        &["pastry", "play", "--room=4097"],
+        &["pastry", "points", "--room", "0"],
+        &["pastry", "points", "--room=4097"],
         &["pastry", "large", "--size", "835585"],
         &["pastry", "play", "--help"],
         &["pastry", "play", "--nodes"],

@@ -45,7 +45,7 @@ use Rattle.file_laws.specs.Given.{IsGiven, WasStored, storings}
 use Rattle.file_laws.proofs.Commanded.{OfAll}
 use Rattle.file_laws.proofs.Filed.{fragment_at, generated_long}
 use Rattle.file_laws.proofs.Numbered.{IsAt, IsNumbered, commands_counted, commands_in, commands_in-append, commands_in-each, play_numbered}
-use Rattle.file_laws.proofs.Told.{IsTold, closing_tells}
+use Rattle.file_laws.proofs.Told.{IsTold, accepted_whole, closing_tells, in_whole}
 
 -- ---- closings, one by one
 
@@ -80,14 +80,6 @@ found_answer (Some answer.GaveUp) bytes e = cc
 found_answer (Some answer.NothingToGiveUp) bytes e = cc
 found_answer None bytes e = cc
 
--- ---- what is kept after some entries was accepted in the whole record
-
-accepted_whole : (es : List Entry) (upto : ℕ) (f : FileId) (b : Content) → table (take upto es) f ≡ Keeps b → accepted_in f (notes_in es) ≡ Some b
-accepted_whole es upto f b h =
-    ap (λ ds. accepted_in f (notes_in ds)) (sym (take-append-drop upto es)) ∙
-    ap (accepted_in f) (flat_map-append (λ (e : Entry). e.notes) (take upto es) (drop upto es)) ∙
-    accepted-more f b (notes_in (take upto es)) (notes_in (drop upto es)) (keeps_parts f b (notes_in (take upto es)) h).accepted
-
 -- ---- a command by its number
 
 module _ (g : Setting) (es : List Entry) (cs : List NodeCommand) (numbered : Each (λ (e : Entry). IsNumbered cs e.event) es) where
@@ -99,12 +91,9 @@ module _ (g : Setting) (es : List Entry) (cs : List NodeCommand) (numbered : Eac
       let e : Entry = t.commanded.0 in
       let inside = subst (λ past. Contains past e) t.past t.commanded.1 in
       let at : IsAt cs (1 + k) t.command = subst (IsNumbered cs) t.commanded.2
-          (Each-contains (λ (d : Entry). IsNumbered cs d.event) es e numbered (in_whole t.upto e inside)) in
+      (Each-contains (λ (d : Entry). IsNumbered cs d.event) es e numbered (in_whole es t.upto e inside)) in
       let place : at.place ≡ k = let number = at.number in omega arith in
       sym (subst (λ i. get_or cs i command.GiveUp ≡ t.command) place (get_or_from_slice_get cs at.place t.command command.GiveUp at.there))
-    where
-      in_whole : (i : ℕ) (e : Entry) → Contains (take i es) e → Contains es e
-      in_whole i e c = subst (λ ds. Contains ds e) (take-append-drop i es) (Contains-append_left (take i es) (drop i es) e c)
 
   -- an insert that was answered Stored, and a fetch that was answered Found
   stored_accepted : (k copies : ℕ) (f : FileId) (b : Content) (holders : List ℕ) → get_or cs k command.GiveUp ≡ command.Insert f copies b →
@@ -272,7 +261,7 @@ module _ (nodes seed : ℕ) (f : LargeFile) (few : length f.bytes ≤ 835584) (e
       let rest = length-drop 1 (retrieved count closings) in omega arith
 
   module _ (g : Setting) (legal : IsRecord g es) (right : NotesAreRight g es) (numbered : Each (λ (e : Entry). IsNumbered cs e.event) es)
-    (stored : All WasStored (storings count closings)) (whole : is_whole (retrieved count closings) ≡ true) where
+      (stored : All WasStored (storings count closings)) (whole : is_whole (retrieved count closings) ≡ true) where
     accepted : (k : ℕ) → k < count + 1 → accepted_in (file_at m k).file (notes_in es) ≡ Some (file_at m k).bytes
     accepted k h =
         let size = storings_long in

@@ -4,3 +4,6 @@ pub mod Numbered
 pub mod Told
 pub mod Filed
 pub mod Given
+pub mod Hitting
+pub mod Fetched
+pub mod Right

@@ -2,6 +2,7 @@
 use Rattle.std.proofs.Common.{◌≡◌, ℕ, ◌+◌, ◌*◌, Some, List, [], ◌∷◌, ◌++◌, length, map, slice_get, refl, sym, subst, ap, ◌∙◌, append_assoc, length-append}
 use Rattle.std.proofs.Common.{arith}
 use Rattle.std.specs.List.{flat_map, range_with_len}
+use Rattle.lru.proofs.Pairs.{slice_get-cut}
 use Rattle.ring_math.specs.Names.{Id, Number}
 use Rattle.wire_msg.specs.declared.command.Command.{Command as NodeCommand}
 use Rattle.wire_msg.specs.declared.command.Command.TheVariants as command
@@ -57,16 +58,12 @@ IsNumbered cs (event.Command x n c) = IsAt cs n c
 IsNumbered cs (event.Deliver m) = Unit {0}
 IsNumbered cs (event.Noise x) = Unit {0}
 
-in_the_middle : {A : Type 0} (xs : List A) (x : A) (ys : List A) → slice_get (xs ++ x ∷ ys) (length xs) ≡ Some x
-in_the_middle [] x ys = refl
-in_the_middle (y ∷ xs) x ys = in_the_middle xs x ys
-
 at_its_place : (cs before : List NodeCommand) (c : NodeCommand) (behind : List NodeCommand) (n : ℕ) → cs ≡ before ++ c ∷ behind → n ≡ length before + 1 →
     IsAt cs n c
 at_its_place cs before c behind n is number = record {
   place = length before;
   number = number;
-  there = ap (λ xs. slice_get xs (length before)) is ∙ in_the_middle before c behind;
+  there = ap (λ xs. slice_get xs (length before)) is ∙ slice_get-cut before c behind;
 }
 
 one_longer : (before : List NodeCommand) (c : NodeCommand) (n : ℕ) → n ≡ length before + 1 → n + 1 ≡ length (before ++ c ∷ []) + 1

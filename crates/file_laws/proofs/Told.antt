@@ -1,9 +1,10 @@
 -- The closing of a command tells of an answer that is right.
 use Rattle.std.proofs.Common.{◌≡◌, ◌<◌, ℕ, zero, suc, ◌+◌, Bool, true, false, ◌==◌, Option, Some, None, List, [], ◌∷◌, ◌++◌, length, take, slice_get, Contains}
-use Rattle.std.proofs.Common.{◌⊎◌, inl, inr, if◌then◌else◌, refl, sym, subst, ap, ◌∙◌, arith}
+use Rattle.std.proofs.Common.{drop, take-append-drop, ◌⊎◌, inl, inr, if◌then◌else◌, refl, sym, subst, ap, ◌∙◌, arith}
 use Rattle.std.proofs.lemmas.Bool.{eqb-true}
-use Rattle.std.proofs.lemmas.List.Elements.{Contains-append_cases}
-use Rattle.ring_math.specs.Names.{Id, Number}
+use Rattle.std.proofs.lemmas.List.Elements.{Contains-append_cases, Contains-append_left}
+use Rattle.std.proofs.lemmas.List.Concat.{flat_map-append}
+use Rattle.ring_math.specs.Names.{Content, FileId, Id, Number}
 use Rattle.wire_msg.specs.declared.command.Command.{Command as NodeCommand}
 use Rattle.wire_msg.specs.declared.note.Note.{Note}
 use Rattle.wire_msg.specs.declared.note.Note.TheVariants as note
@@ -12,7 +13,8 @@ use Rattle.wire_msg.specs.declared.reply.Answer.TheVariants as answer
 use Rattle.wire_msg.specs.declared.reply.Reply.{Reply}
 use Rattle.overlay_rules.specs.declared.entry.Entry.{Entry}
 use Rattle.overlay_rules.specs.Record.{Setting, Follows, IsRecord, sent_in, visit, world_after}
-use Rattle.overlay_rules.specs.Table.{notes_in}
+use Rattle.overlay_rules.specs.Table.{Keeps, accepted_in, notes_in, table}
+use Rattle.table_laws.proofs.Tables.{accepted-more, keeps_parts}
 use Rattle.overlay_rules.specs.Moments.{Moment, moment_of}
 use Rattle.overlay_rules.specs.Rightly.{NotesAreRight, RightNote, RightReply, WasAnswered, WasCommanded}
 use Rattle.overlay_rules.proofs.Histories.{follows_at, past_after}
@@ -68,6 +70,18 @@ closed_there n a (note.Delivered origin m key hops ∷ ns) e = let rest = closed
 closed_there n a (note.Answered origin m r ∷ ns) e = let rest = closed_there n a ns e in let inside = rest.1 in (suc rest.0, omega arith, rest.2)
 closed_there n a (note.Reclaimed file ∷ ns) e = let rest = closed_there n a ns e in let inside = rest.1 in (suc rest.0, omega arith, rest.2)
 
+-- ---- what is kept after some entries was accepted in the whole record
+
+pub accepted_whole : (es : List Entry) (upto : ℕ) (f : FileId) (b : Content) → table (take upto es) f ≡ Keeps b → accepted_in f (notes_in es) ≡ Some b
+accepted_whole es upto f b h =
+    ap (λ ds. accepted_in f (notes_in ds)) (sym (take-append-drop upto es)) ∙
+    ap (accepted_in f) (flat_map-append (λ (e : Entry). e.notes) (take upto es) (drop upto es)) ∙
+    accepted-more f b (notes_in (take upto es)) (notes_in (drop upto es)) (keeps_parts f b (notes_in (take upto es)) h).accepted
+
+-- what is among the first entries is among all
+pub in_whole : (es : List Entry) (i : ℕ) (e : Entry) → Contains (take i es) e → Contains es e
+in_whole es i e c = subst (λ ds. Contains ds e) (take-append-drop i es) (Contains-append_left (take i es) (drop i es) e c)
+
 -- ---- what it tells
 
 -- so many entries lead to a moment in which this reply to the command of this number is right
@@ -85,7 +99,7 @@ module _ (g : Setting) (es : List Entry) (legal : IsRecord g es) (notes : NotesA
   right_at n at =
       let follows : Follows g (world_after g es at.place) at.entry = follows_at g es at.place at.entry legal.legal at.there in
       let visited : visit (sent_in (take at.place es)) at.entry.event ≡ Some follows.at =
-          ap (λ past. visit (sent_in past) at.entry.event) (sym (past_after g es at.place)) ∙ follows.is_at in
+      ap (λ past. visit (sent_in past) at.entry.event) (sym (past_after g es at.place)) ∙ follows.is_at in
       (follows.at.node, notes at.place at.entry follows.at n at.there visited at.has)
 
   -- an answer that was noted before
@@ -106,8 +120,12 @@ module _ (g : Setting) (es : List Entry) (legal : IsRecord g es) (notes : NotesA
         right = right.1.1.1;
       }
 
-  pub closing_tells : (n : Number) (r : Reply) → closing_of n (notes_in es) ≡ Some (answer.Reply r) → IsTold g es n r
-  closing_tells n r e =
-      let at = noted_at es (note.Closed n (answer.Reply r)) (closed_there n (answer.Reply r) (notes_in es) e) in
+  -- a closing with a reply
+  pub noted_tells : (n : Number) (r : Reply) → IsNotedAt es (note.Closed n (answer.Reply r)) → IsTold g es n r
+  noted_tells n r at =
       let right = right_at (note.Closed n (answer.Reply r)) at in
       told_by right.0 n r (answered_before at.place right.0 n r right.1)
+
+  pub closing_tells : (n : Number) (r : Reply) → closing_of n (notes_in es) ≡ Some (answer.Reply r) → IsTold g es n r
+  closing_tells n r e =
+      noted_tells n r (noted_at es (note.Closed n (answer.Reply r)) (closed_there n (answer.Reply r) (notes_in es) e))

@@ -1,5 +1,5 @@
 //! What answers about files show in a legal record: pieces of a large file that were stored and found again are joined to what was
-//! cut.
+//! cut, and what an access point answers was accepted.
 #![tactic(auto)]
 
 ghost use Rattle.std.specs.Prelude.{◌≡◌, ◌≤◌, length};
@@ -8,13 +8,16 @@ ghost use Rattle.delivery_report.specs.Texts.{commands_of};
 ghost use Rattle.fragments.specs.declared.limits.TheConstants.{MOST_LARGE_BYTES};
 ghost use Rattle.fragments.specs.Large.{large};
 ghost use Rattle.fragments.specs.Pieces.{LargeFile, pieces_of};
+ghost use Rattle.fetch_cache.specs.Run.{IsPointRun};
 ghost use Rattle.file_laws.specs.Given.{IsGiven};
+ghost use Rattle.file_laws.specs.Hits.{AreRightHits};
 ghost use Rattle.file_laws.specs.Stored.{ComesBackFrom};
 ghost use Rattle.overlay_rules.specs.Record.{IsRecord};
 ghost use Rattle.overlay_rules.specs.Rightly.{NotesAreRight};
 ghost use Rattle.schedule.specs.Schedule.{play_of, setting_of};
 ghost use Rattle.step_facts.specs.Setting.{setting};
 
+use fetch_cache::PointRun;
 use fragments::Pieces;
 use overlay_rules::{Entries, Record};
 use ring_math::Id;
@@ -41,5 +44,17 @@ pub fn given_law(nodes: u32, seed: u64, size: u32, scenario: &Scenario, steps: &
     requires legal { IsRecord (setting_of scenario.now) steps.now.entries }
     requires right { NotesAreRight (setting_of scenario.now) steps.now.entries }
     ensures { IsGiven seed size (closings_of (commands_of scenario.now) steps.now.entries) }
+{}
+
+/// The law of access points. Of a scenario that was played with points of so much room: each hit gives bytes that a fetch of the
+/// file found at the same node, before any later command was given, and they are the bytes that were first accepted for the file.
+/// The file may have been reclaimed since.
+pub fn hits_law(scenario: &Scenario, room: usize, run: &PointRun)
+    requires run { IsPointRun scenario.now room run.now.steps.entries run.now.steps.skipped run.now.hits }
+    requires legal { IsRecord (setting_of scenario.now) run.now.steps.entries }
+    requires right { NotesAreRight (setting_of scenario.now) run.now.steps.entries }
+    ensures { AreRightHits scenario.now run.now.steps.entries run.now.hits }
 {
+    // Whose actions keep the rules of a scenario.
+    let _actions = scenario.actions();
 }

@@ -92,7 +92,11 @@ fn put_answers(text: &mut Text, stored: u64, found: u64) -> Result<(), OutOfMemo
 fn whole_text(whole: bool) -> &'static [u8]
     ensures { result.now ≡ whole_text whole }
 {
-    if whole { b" whole yes\n" } else { b" whole no\n" }
+    if whole {
+        b" whole yes\n"
+    } else {
+        b" whole no\n"
+    }
 }
 
 /// How many fragments so many bytes have.

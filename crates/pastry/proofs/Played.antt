@@ -9,6 +9,9 @@ use Rattle.fragments.specs.Large.{large}
 use Rattle.file_laws.specs.Given.{IsGiven}
 use Rattle.pastry.specs.Large.{IsPlayedLarge}
 use Rattle.pastry.specs.Played.{HasTold, IsPlayed}
+use Rattle.fetch_cache.specs.declared.hit.Hit.{Hit}
+use Rattle.fetch_cache.specs.Text.{points_text}
+use Rattle.pastry.specs.Pointed.{HasPointed, IsPointed, IsToBeTold}
 use Rattle.pastry.specs.Prepared.{Prepares}
 use Rattle.pastry.specs.Outputs.{output_text}
 use Rattle.pastry.specs.Runs.{HasPlayedLarge, HasPlayedMade}
@@ -56,3 +59,20 @@ HasPlayedLarge-from_made source nodes seed size W played run = record {
 pub is_given : (seed size : ℕ) (s : PlainScenario) (r : Record) (text : List ℕ) → Prepares IsPlayed (output_text (output.Large size)) s r text →
     IsGiven seed size (closings_of (commands_of s) r.entries) → Prepares (IsPlayedLarge seed size) (output_text (output.Large size)) s r text
 is_given seed size s r text prepared given = record { is = record { played = prepared.is; given = given }; is_text = prepared.is_text }
+
+-- what was played with access points, and its report
+pub to_be_told : (s : PlainScenario) (room : ℕ) (r : Record) (hits : List Hit) (text : List ℕ) → IsPointed s room r hits → text ≡ points_text s r hits →
+    IsToBeTold s room r text
+to_be_told s room r hits text is same = record { hits = hits; is = is; is_text = same }
+
+pub HasPointed-from_told : (W : List ℕ → Type 0) (told : Option Record) (R : PlainScenario → Type 0) (room : ℕ) (s : PlainScenario) (r : Record)
+    (text : List ℕ) → IsToBeTold s room r text → R s → told ≡ Some r → W text → HasPointed R room W told
+HasPointed-from_told W told R room s r text prepared from same written = record {
+  scenario = s;
+  record_of = r;
+  hits = prepared.hits;
+  from = from;
+  is = prepared.is;
+  same = same;
+  written = subst W prepared.is_text written;
+}

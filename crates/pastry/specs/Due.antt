@@ -4,7 +4,7 @@ use Rattle.scenario_reader.specs.declared.fault.LineFault.{LineFault}
 use Rattle.scenario_reader.specs.Grammar.{scenario_of}
 use Rattle.scenario_reader.specs.Plain.{PlainScenario}
 use Rattle.cli_words.specs.declared.mode.Mode.{Mode}
-use Rattle.cli_words.specs.declared.mode.Mode.TheVariants.{Play, Big, Trace, Check, Large, Messages}
+use Rattle.cli_words.specs.declared.mode.Mode.TheVariants.{Play, Big, Trace, Check, Points, Large, Messages}
 use Rattle.trace_text.specs.declared.fault.TraceFault.{TraceFault}
 use Rattle.trace_text.specs.Traces.{IsTraceOf, PlainTrace, setting_of}
 use Rattle.trace_text.specs.declared.limits.TheConstants.{MOST_TRACE_BYTES}
@@ -45,5 +45,6 @@ IsDue Play source_fails sink_fails left answered = ¬ source_fails → ¬ sink_f
 IsDue (Big nodes seed) source_fails sink_fails left answered = ¬ sink_fails → DoneOr answered None
 IsDue Trace source_fails sink_fails left answered = ¬ source_fails → ¬ sink_fails → IsAnswered left answered
 IsDue Check source_fails sink_fails left answered = ¬ source_fails → ¬ sink_fails → IsJudgedRightly left answered
+IsDue (Points room) source_fails sink_fails left answered = ¬ source_fails → ¬ sink_fails → IsAnswered left answered
 IsDue (Large nodes seed size) source_fails sink_fails left answered = ¬ sink_fails → DoneOr answered None
 IsDue Messages source_fails sink_fails left answered = ¬ source_fails → ¬ sink_fails → IsAnswered left answered

@@ -7,6 +7,7 @@ pub mod Judged
 pub mod Large
 pub mod Outputs
 pub mod Played
+pub mod Pointed
 pub mod Prepared
 pub mod Reading
 pub mod Runs

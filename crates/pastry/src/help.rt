@@ -23,6 +23,7 @@ usage: pastry play < SCENARIO
        pastry trace < SCENARIO
        pastry check < TRACE
        pastry messages < SCENARIO
+       pastry points [--room N] < SCENARIO
        pastry large [--nodes N] [--seed N] [--size N]
 
   play        plays the scenario on standard input, and writes its report
@@ -30,6 +31,7 @@ usage: pastry play < SCENARIO
   trace       plays the scenario on standard input, and writes all that happened, as docs/TRACES.md has it
   messages    plays the scenario on standard input, and writes every message with its number, for people to read
   check       reads what trace wrote, or anybody, and writes whether that could have happened
+  points      plays the scenario with a cache at each node, which answers what it has seen found, and writes its report
   large       stores a large file in fragments and fetches it again, in a scenario that it makes, and writes what came of it
 ";
 
@@ -50,7 +52,7 @@ impl fmt::Display for Help {
             "{MODES}
   --nodes N   how many nodes big and large make: {FEWEST_MADE_NODES} to {MOST_MADE_NODES}, {DEFAULT_NODES} if not given
   --seed N    the number from which they make their scenarios: 0 to {most}, {DEFAULT_SEED} if not given
-  --room N    {LEAST_ROOM} to {MOST_ROOM}, {DEFAULT_ROOM} if not given; it has no effect in these modes
+  --room N    how many files a cache of points remembers: {LEAST_ROOM} to {MOST_ROOM}, {DEFAULT_ROOM} if not given
   --size N    how many bytes the file of large has: 0 to {MOST_SIZE}, {DEFAULT_SIZE} if not given
 
 {STATUSES}"

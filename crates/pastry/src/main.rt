@@ -11,6 +11,7 @@ mod modes;
 mod outcome;
 mod output;
 mod playing;
+mod pointing;
 mod progress;
 mod reading;
 mod table;

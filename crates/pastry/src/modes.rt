@@ -18,6 +18,7 @@ use crate::large::play_large;
 use crate::outcome::{Outcome, TopFault};
 use crate::output::Output;
 use crate::playing::{play_made, play_read};
+use crate::pointing::point_read;
 use crate::table::tell_read;
 use cli_words::Mode;
 use outside::{Sink, Source, Turnstile};
@@ -54,6 +55,7 @@ pub(crate) fn run_mode<S: Source, K: Sink, T: Turnstile>(
         Mode::Big { nodes, seed } => play_made(alloc, nodes, seed, sink, turnstile),
         Mode::Trace => play_read(alloc, Output::Trace, source, sink, turnstile),
         Mode::Check => check_read(alloc, source, sink),
+        Mode::Points { room } => point_read(alloc, room, source, sink),
         Mode::Large { nodes, seed, size } => play_large(alloc, nodes, seed, size, sink, turnstile),
         Mode::Messages => tell_read(alloc, source, sink, turnstile),
     }

@@ -25,8 +25,10 @@ use std::sync::Wait;
 use std::thread::Threads;
 
 /// One run of the program. The words ask for a mode: `play` reads a scenario from the source, plays it, and writes its report to
-/// the sink; `trace` plays it, and writes the record itself; `big` plays a scenario that it makes, and writes its summary;
-/// `check` reads a trace, and writes whether its record is legal or where it is wrong first. The text is whole in memory before its first byte is written.
+/// the sink; `trace` plays it, and writes the record itself; `points` plays it with access points; `big` plays a scenario that it
+/// makes, and writes its summary; `large` plays one that stores a large file and fetches it again, and writes what came of the
+/// file; `check` reads a trace, and writes whether its record is legal or where it is wrong first. The text is whole in memory
+/// before its first byte is written.
 pub fn top<R: Threads + Wait + Sync, S: Source, K: Sink, T: Turnstile + Sync>(
     rt: &R,
     alloc: Global,
@@ -42,8 +44,9 @@ pub fn top<R: Threads + Wait + Sync, S: Source, K: Sink, T: Turnstile + Sync>(
     ensures nothing_written { ¬ HasWritten result.fault → sink.new ≡ sink.old }
 
     // Without a fault the words ask for a mode, and what it is to do was done, with a record that is handed out. In `play` and
-    // `trace` the source was read to its end, what it had is a scenario, and that was played; in `big` one was made and played,
-    // and the source is as it was; the record is the scenario's played record. In `check` the source was read to its end, what
+    // `trace` the source was read to its end, what it had is a scenario, and that was played; in `big` and `large` one was made and
+    // played, and the source is as it was; the record is the scenario's played record. In `points` the scenario that was read was
+    // played with access points, and the record is that of this play. In `check` the source was read to its end, what
     // it had is a trace, and the record is that of the trace, and legal. In each mode the headline holds of the record, whoever
     // made it: one owner per key, and one plain table of files. The sink took the whole text, by calls that offered each time
     // what was left. With a fault of the sink all is the same, but for the text, which breaks off at the call that failed; and
@@ -57,7 +60,7 @@ pub fn top<R: Threads + Wait + Sync, S: Source, K: Sink, T: Turnstile + Sync>(
         AskFor (map rc_str_bytes words.now) Mode.Check × HasFoundWrong (S.left source.old) (S.left source.new) (IsTaken K.takes K.taken sink.old sink.new) result.played entry part }
 
     // Each fault has its cause. Want of memory alone is free. The source is as it was unless the words ask for a mode that reads
-    // it; then it was read by calls, of which one that failed was the last. So Usage and `big` leave it as it is.
+    // it; then it was read by calls, of which one that failed was the last. So Usage, `big` and `large` leave it as it is.
     ensures usage { result.fault ≡ Some TopFault.Usage → AreUsage (map rc_str_bytes words.now) }
     ensures nothing_read { result.fault ≡ Some TopFault.Usage → source.new ≡ source.old }
     ensures untouched { (source.new ≡ source.old) ⊎ AskForOneThat (map rc_str_bytes words.now) (λ mode. ReadsInput mode × WasReadByCalls (limit_of mode) S.gives source.old source.new (result.fault ≡ Some TopFault.Read)) }

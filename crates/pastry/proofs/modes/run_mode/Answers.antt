@@ -1,4 +1,4 @@
-use Rattle.cli_words.specs.declared.mode.Mode.TheVariants.{Play, Big, Trace, Check, Large, Messages}
+use Rattle.cli_words.specs.declared.mode.Mode.TheVariants.{Play, Big, Trace, Check, Points, Large, Messages}
 use Rattle.pastry.proofs.Endings.{answers}
 use Rattle.pastry.proofs.Judging.{judges, judged_legal, judged_wrong}
 use Rattle.pastry.proofs.InMode.{at_its_text_in, done_in, due_in}
@@ -42,6 +42,16 @@ returns-in-Check-clause-due g c =
       refused = c.check_read.ensures.no_trace;
       unread = c.check_read.ensures.unread;
       unwritten = c.check_read.ensures.unwritten;
+    }) source sink)
+
+pub returns-in-Points-clause-due : goal.returns-in-Points-clause-due
+returns-in-Points-clause-due g c =
+    due_in _ (Points c.in-Points.room) c.in-Points.is _ _ _ _ (λ source sink. answers _ _ _ _ _ (record {
+      kind = c.point_read.ensures.kind;
+      done = λ e. let run = c.point_read.ensures.done e in (run.scenario, run.from);
+      refused = c.point_read.ensures.refused;
+      unread = c.point_read.ensures.unread;
+      unwritten = c.point_read.ensures.unwritten;
     }) source sink)
 
 pub returns-in-Large-clause-done : goal.returns-in-Large-clause-done
