@@ -15,7 +15,7 @@ use Rattle.clap.specs.declared.builder.value_parser.ValueParser.TheVariants as v
 use Rattle.clap.proofs.OnLiterals.{clap_on_literals}
 use Rattle.clap.proofs.WalkLemmas.{list_any-map}
 use Rattle.cli_words.specs.declared.mode.Mode.{Mode}
-use Rattle.cli_words.specs.declared.mode.Mode.TheVariants.{Play, Big, Trace, Check, Points, Large, Messages}
+use Rattle.cli_words.specs.declared.mode.Mode.TheVariants.{Play, Run, Big, Trace, Check, Points, Large, Messages}
 use Rattle.cli_words.specs.declared.modes.Numbers.{Numbers}
 use Rattle.cli_words.specs.Command.{AreModes, command_of, mode_named, mode_names, mode_of, numbers_of}
 use Rattle.cli_words.proofs.Accepted.{AllGood, Passed, given_passed, level_checked, level_fit}
@@ -60,8 +60,8 @@ EachIsNamed numbers (name ∷ names) = IsNamed numbers name × EachIsNamed numbe
 
 each_is_named : (numbers : Numbers) → EachIsNamed numbers mode_names
 each_is_named numbers =
-    and (Play, refl) (and (Big numbers.nodes numbers.seed, refl) (and (Trace, refl) (and (Check, refl) (and (Points numbers.room, refl)
-    (and (Large numbers.nodes numbers.seed numbers.size, refl) (and (Messages, refl) tt))))))
+    and (Play, refl) (and (Run, refl) (and (Big numbers.nodes numbers.seed, refl) (and (Trace, refl) (and (Check, refl) (and (Points numbers.room, refl)
+    (and (Large numbers.nodes numbers.seed numbers.size, refl) (and (Messages, refl) tt)))))))
 
 one_is_named : (numbers : Numbers) (names : List Text) (name : Text) → EachIsNamed numbers names → list_any (λ (t : Text). bytes_eq t name) names ≡ true →
     IsNamed numbers name

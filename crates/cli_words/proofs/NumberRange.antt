@@ -25,7 +25,7 @@ use Rattle.clap.proofs.ValueTestLemmas.{accepts-Accepts}
 use Rattle.cli_words.specs.declared.limits.TheConstants.{DEFAULT_NODES, DEFAULT_ROOM, DEFAULT_SIZE, FEWEST_MADE_NODES, LEAST_ROOM, MOST_MADE_NODES}
 use Rattle.cli_words.specs.declared.limits.TheConstants.{MOST_ROOM, MOST_SIZE}
 use Rattle.cli_words.specs.declared.mode.Mode.{Mode}
-use Rattle.cli_words.specs.declared.mode.Mode.TheVariants.{Play, Big, Trace, Check, Points, Large, Messages}
+use Rattle.cli_words.specs.declared.mode.Mode.TheVariants.{Play, Run, Big, Trace, Check, Points, Large, Messages}
 use Rattle.cli_words.specs.declared.mode.WordFault.{WordFault}
 use Rattle.cli_words.specs.declared.mode.WordFault.TheVariants.{OutOfMemory}
 use Rattle.cli_words.specs.declared.modes.Numbers.{Numbers}
@@ -144,12 +144,13 @@ named_in_range : (name : Option Text) (numbers : Numbers) → AreInRange numbers
 named_in_range None numbers h = tt
 named_in_range (Some t) numbers h =
     either (bytes_eq t (codes "play")) Play _ tt
+    (either (bytes_eq t (codes "run")) Run _ tt
     (either (bytes_eq t (codes "big")) (Big numbers.nodes numbers.seed) _ h.nodes
     (either (bytes_eq t (codes "trace")) Trace _ tt
     (either (bytes_eq t (codes "check")) Check _ tt
     (either (bytes_eq t (codes "points")) (Points numbers.room) _ h.room
     (either (bytes_eq t (codes "large")) (Large numbers.nodes numbers.seed numbers.size) _ (h.nodes, h.size)
-    (either (bytes_eq t (codes "messages")) Messages None tt tt))))))
+    (either (bytes_eq t (codes "messages")) Messages None tt tt)))))))
 
 mode_in_range : (names : Bor (List (Bor Text))) (words : List Text) → fault_of (command_of names) words ≡ [] →
     IfSome (mode_of (matches_of (command_of names) words)) HasNumbersInRange

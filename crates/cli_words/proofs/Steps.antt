@@ -247,7 +247,7 @@ names_are_plain : EachIsPlain mode_names
 unfolding clap_on_literals
 names_are_plain =
     and (plain _ refl refl refl) (and (plain _ refl refl refl) (and (plain _ refl refl refl) (and (plain _ refl refl refl)
-    (and (plain _ refl refl refl) (and (plain _ refl refl refl) tt)))))
+    (and (plain _ refl refl refl) (and (plain _ refl refl refl) (and (plain _ refl refl refl) (and (plain _ refl refl refl) tt)))))))
 
 one_is_plain : (ts : List Text) (m : Text) → EachIsPlain ts → IsAmong m ts → IsPlainValue m
 one_is_plain [] m each is = absurd is

@@ -19,14 +19,14 @@ use Rattle.cli_words.specs.declared.limits.TheConstants.{DEFAULT_NODES, DEFAULT_
 use Rattle.cli_words.specs.declared.limits.TheConstants.{DEFAULT_SIZE, DEFAULT_SIZE_TEXT, FEWEST_MADE_NODES, LEAST_ROOM}
 use Rattle.cli_words.specs.declared.limits.TheConstants.{MOST_MADE_NODES, MOST_ROOM, MOST_SIZE}
 use Rattle.cli_words.specs.declared.mode.Mode.{Mode}
-use Rattle.cli_words.specs.declared.mode.Mode.TheVariants.{Play, Big, Trace, Check, Points, Large, Messages}
+use Rattle.cli_words.specs.declared.mode.Mode.TheVariants.{Play, Run, Big, Trace, Check, Points, Large, Messages}
 use Rattle.cli_words.specs.declared.mode.WordFault.{WordFault}
 use Rattle.cli_words.specs.declared.mode.WordFault.TheVariants.{Usage}
 use Rattle.cli_words.specs.declared.modes.Numbers.{Numbers}
 
 -- the texts of MODE
 abbrev pub mode_names : List Text
-mode_names = codes "play" ∷ codes "big" ∷ codes "trace" ∷ codes "check" ∷ codes "points" ∷ codes "large" ∷ codes "messages" ∷ []
+mode_names = codes "play" ∷ codes "run" ∷ codes "big" ∷ codes "trace" ∷ codes "check" ∷ codes "points" ∷ codes "large" ∷ codes "messages" ∷ []
 
 -- the same, wherever they are kept
 abbrev pub AreModes : Bor (List (Bor Text)) → Type 0
@@ -76,12 +76,13 @@ number_of id most otherwise rows = option_map_or (number_in most otherwise) (one
 abbrev pub mode_named : Numbers → Text → Option Mode
 mode_named numbers name =
     if bytes_eq name (codes "play") then Some Play
+    else (if bytes_eq name (codes "run") then Some Run
     else (if bytes_eq name (codes "big") then Some (Big numbers.nodes numbers.seed)
     else (if bytes_eq name (codes "trace") then Some Trace
     else (if bytes_eq name (codes "check") then Some Check
     else (if bytes_eq name (codes "points") then Some (Points numbers.room)
     else (if bytes_eq name (codes "large") then Some (Large numbers.nodes numbers.seed numbers.size)
-    else (if bytes_eq name (codes "messages") then Some Messages else None))))))
+    else (if bytes_eq name (codes "messages") then Some Messages else None)))))))
 
 -- the numbers of what a reading found
 abbrev pub numbers_of : List Row → Numbers
@@ -104,6 +105,7 @@ AreNodesInRange nodes = (FEWEST_MADE_NODES ≤ nodes) × (nodes ≤ MOST_MADE_NO
 -- the numbers of a mode are such as its options take
 abbrev pub HasNumbersInRange : Mode → Type 0
 HasNumbersInRange Play = Unit {0}
+HasNumbersInRange Run = Unit {0}
 HasNumbersInRange (Big nodes seed) = AreNodesInRange nodes
 HasNumbersInRange Trace = Unit {0}
 HasNumbersInRange Check = Unit {0}

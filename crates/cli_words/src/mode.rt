@@ -7,6 +7,8 @@ use std::alloc::AllocError;
 pub enum Mode {
     /// Plays a scenario and writes its report.
     Play,
+    /// Runs a scenario, each node as a thread, and writes the report of that run.
+    Run,
     /// Plays the scenario that is made of so many nodes, 2 to 256, and a seed, and writes its summary.
     Big { nodes: u32, seed: u64 },
     /// Plays a scenario and writes its record as a trace.

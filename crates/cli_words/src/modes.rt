@@ -6,7 +6,9 @@ ghost use Rattle.cli_words.specs.Command.{mode_named};
 use crate::mode::Mode;
 
 /// The names of the modes, each of which [`mode_named`] knows.
-pub(crate) static MODES: [&str; 7] = ["play", "big", "trace", "check", "points", "large", "messages"];
+pub(crate) static MODES: [&str; 8] = [
+    "play", "run", "big", "trace", "check", "points", "large", "messages",
+];
 
 /// The numbers of the options, given or not.
 #[derive(Clone, Copy)]
@@ -29,6 +31,7 @@ pub(crate) fn mode_named(name: &str, numbers: Numbers) -> Option<Mode>
     } = numbers;
     match name {
         "play" => Some(Mode::Play),
+        "run" => Some(Mode::Run),
         "big" => Some(Mode::Big { nodes, seed }),
         "trace" => Some(Mode::Trace),
         "check" => Some(Mode::Check),

@@ -16,6 +16,7 @@ fn read(rt: &HostRuntime, words: &[&str]) -> Result<Result<Mode, WordFault>, Fai
 fn reads_plain_words(rt: HostRuntime) -> Result<(), Fail> {
     let big = Mode::Big { nodes: 9, seed: 0 };
     assert_eq!(rt; read(&rt, &["pastry", "play"])?, Ok(Mode::Play));
+    assert_eq!(rt; read(&rt, &["pastry", "run"])?, Ok(Mode::Run));
     assert_eq!(rt; read(&rt, &["pastry", "trace"])?, Ok(Mode::Trace));
     assert_eq!(rt; read(&rt, &["pastry", "check"])?, Ok(Mode::Check));
     assert_eq!(rt; read(&rt, &["pastry", "messages"])?, Ok(Mode::Messages));
@@ -77,7 +78,7 @@ fn refuses_other_words(rt: HostRuntime) -> Result<(), Fail> {
     let refused: [&[&str]; 15] = [
         &[],
         &["pastry"],
-        &["pastry", "run"],
+        &["pastry", "points"],
         &["pastry", "groups"],
         &["pastry", "Play"],
         &["pastry", "play", "play"],

@@ -3,7 +3,7 @@ use Rattle.std.proofs.Common.{◌≡◌, ℕ, List, Option, inl, inr, subst, ari
 use Rattle.outside.specs.Rose.{Rose}
 use Rattle.clap.specs.Walk.{Text}
 use Rattle.cli_words.specs.declared.mode.Mode.{Mode}
-use Rattle.cli_words.specs.declared.mode.Mode.TheVariants.{Play, Big, Trace, Check, Points, Large, Messages}
+use Rattle.cli_words.specs.declared.mode.Mode.TheVariants.{Play, Run, Big, Trace, Check, Points, Large, Messages}
 use Rattle.pastry.specs.declared.outcome.TopFault.{TopFault}
 use Rattle.pastry.specs.Asked.{AskFor, NamePlainly}
 use Rattle.pastry.specs.Due.{IsDue}
@@ -18,6 +18,7 @@ steady_count before after e f (inr top) = omega arith
 pub due_where_none_fails : (mode : Mode) (rose_source rose_sink : Type 0) (left : Option (List ℕ)) (answered : Option TopFault) →
     (rose_source → ⊥) → (rose_sink → ⊥) → IsDue mode rose_source rose_sink left answered → IsDue mode ⊥ ⊥ left answered
 due_where_none_fails Play rose_source rose_sink left answered source sink due = λ _ _. due source sink
+due_where_none_fails Run rose_source rose_sink left answered source sink due = λ _ _. due source sink
 due_where_none_fails (Big nodes seed) rose_source rose_sink left answered source sink due = λ _. due sink
 due_where_none_fails Trace rose_source rose_sink left answered source sink due = λ _ _. due source sink
 due_where_none_fails Check rose_source rose_sink left answered source sink due = λ _ _. due source sink

@@ -71,6 +71,7 @@ module _ (left left_after : Option (List ℕ)) (rose_source rose_sink : Type 0) 
   ended (Some fault.OutOfMemory) c source sink = Short refl
   ended (Some fault.Usage) c source sink = absurd c.kind
   ended (Some (fault.Trace f)) c source sink = absurd c.kind
+  ended (Some (fault.Run f)) c source sink = absurd c.kind
   ended (Some (fault.Wrong entry part)) c source sink = absurd c.kind
 
   plays : (answered : Option TopFault) → Ended left left_after answered → (xs : List ℕ) → left ≡ Some xs →
@@ -103,4 +104,5 @@ made_is_played rose_sink (Some fault.Usage) kind unwritten sink = absurd kind
 made_is_played rose_sink (Some (fault.Scenario f)) kind unwritten sink = absurd kind
 made_is_played rose_sink (Some (fault.Trace f)) kind unwritten sink = absurd kind
 made_is_played rose_sink (Some fault.Read) kind unwritten sink = absurd kind
+made_is_played rose_sink (Some (fault.Run f)) kind unwritten sink = absurd kind
 made_is_played rose_sink (Some (fault.Wrong entry part)) kind unwritten sink = absurd kind

@@ -2,7 +2,7 @@
 use Rattle.std.proofs.Common.{◌≡◌, ◌⊎◌, inl, inr, ℕ, List, Option, subst, sym}
 use Rattle.overlay_rules.specs.declared.entry.Record.{Record}
 use Rattle.cli_words.specs.declared.mode.Mode.{Mode}
-use Rattle.cli_words.specs.declared.mode.Mode.TheVariants.{Play, Big, Trace, Check, Points, Large, Messages}
+use Rattle.cli_words.specs.declared.mode.Mode.TheVariants.{Play, Run, Big, Trace, Check, Points, Large, Messages}
 use Rattle.pastry.specs.declared.outcome.TopFault.{TopFault}
 use Rattle.pastry.specs.Due.{IsDue}
 use Rattle.pastry.specs.Runs.{IsAtItsText, IsDone, ReadsInput}
@@ -24,6 +24,7 @@ at_its_text_in mode named is left before after W told done = subst (λ (m : Mode
 -- a mode reads its input, or has none
 pub reads_or_not : (mode : Mode) → ReadsInput mode ⊎ (ReadsInput mode → ⊥)
 reads_or_not Play = inl tt
+reads_or_not Run = inl tt
 reads_or_not (Big nodes seed) = inr (λ h. h)
 reads_or_not Trace = inl tt
 reads_or_not Check = inl tt

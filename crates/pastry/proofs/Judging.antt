@@ -130,6 +130,7 @@ module _ (left left_after : Option (List ℕ)) (rose_source rose_sink : Type 0) 
   ended (Some fault.OutOfMemory) c source sink = Short refl
   ended (Some fault.Usage) c source sink = absurd c.kind
   ended (Some (fault.Scenario f)) c source sink = absurd c.kind
+  ended (Some (fault.Run f)) c source sink = absurd c.kind
 
   tells : (answered : Option TopFault) → Ended left left_after answered → (xs : List ℕ) (t : PlainTrace) (v : Verdict) → left ≡ Some xs →
       length xs ≤ MOST_TRACE_BYTES → IsTraceOf xs t → IsVerdict (setting_of t.nodes t.founder) t.entries v → DoneOr answered (fault_of v)

@@ -4,7 +4,9 @@ use Rattle.scenario_reader.specs.declared.fault.LineFault.{LineFault}
 use Rattle.scenario_reader.specs.Grammar.{scenario_of}
 use Rattle.scenario_reader.specs.Plain.{PlainScenario}
 use Rattle.cli_words.specs.declared.mode.Mode.{Mode}
-use Rattle.cli_words.specs.declared.mode.Mode.TheVariants.{Play, Big, Trace, Check, Points, Large, Messages}
+use Rattle.cli_words.specs.declared.mode.Mode.TheVariants.{Play, Run, Big, Trace, Check, Points, Large, Messages}
+use Rattle.overlay_harness.specs.declared.fault.RunFault.TheVariants as run_fault
+use Rattle.overlay_harness.specs.Fault.{first_unfit_line}
 use Rattle.trace_text.specs.declared.fault.TraceFault.{TraceFault}
 use Rattle.trace_text.specs.Traces.{IsTraceOf, PlainTrace, setting_of}
 use Rattle.trace_text.specs.declared.limits.TheConstants.{MOST_TRACE_BYTES}
@@ -28,6 +30,14 @@ IsAnswered left answered =
     ((s : PlainScenario) → scenario_of xs ≡ Ok s → DoneOr answered None)
     × ((f : LineFault) → scenario_of (take INPUT_LIMIT xs) ≡ Err f → DoneOr answered (Some (fault.Scenario f)))
 
+-- what a source has is run where it is a scenario that can be run; where it is another one, its first line that a run can't have
+-- is named; and else it is refused for its fault
+pub record IsRunRightly (left : Option (List ℕ)) (answered : Option TopFault) : Type 0 where
+  pub run : (xs : List ℕ) (s : PlainScenario) → left ≡ Some xs → scenario_of xs ≡ Ok s → first_unfit_line s ≡ None → DoneOr answered None
+  pub unfit : (xs : List ℕ) (s : PlainScenario) (line : ℕ) → left ≡ Some xs → scenario_of xs ≡ Ok s → first_unfit_line s ≡ Some line →
+      DoneOr answered (Some (fault.Run (run_fault.NotForRun line)))
+  pub refused : (xs : List ℕ) (f : LineFault) → left ≡ Some xs → scenario_of (take INPUT_LIMIT xs) ≡ Err f → DoneOr answered (Some (fault.Scenario f))
+
 -- how a check ends that comes to this verdict
 abbrev pub fault_of : Verdict → Option TopFault
 fault_of (verdict.Legal ready) = None
@@ -42,6 +52,7 @@ pub record IsJudgedRightly (left : Option (List ℕ)) (answered : Option TopFaul
 -- what is due in a mode where no device fails: what the source has is answered; `big` and `large` are done, whatever it has
 abbrev pub IsDue : Mode → Type 0 → Type 0 → Option (List ℕ) → Option TopFault → Type 0
 IsDue Play source_fails sink_fails left answered = ¬ source_fails → ¬ sink_fails → IsAnswered left answered
+IsDue Run source_fails sink_fails left answered = ¬ source_fails → ¬ sink_fails → IsRunRightly left answered
 IsDue (Big nodes seed) source_fails sink_fails left answered = ¬ sink_fails → DoneOr answered None
 IsDue Trace source_fails sink_fails left answered = ¬ source_fails → ¬ sink_fails → IsAnswered left answered
 IsDue Check source_fails sink_fails left answered = ¬ source_fails → ¬ sink_fails → IsJudgedRightly left answered

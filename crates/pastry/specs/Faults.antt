@@ -11,6 +11,7 @@ status_of (Some (fault.Trace f)) = 3
 status_of (Some fault.Read) = 4
 status_of (Some fault.Write) = 5
 status_of (Some fault.OutOfMemory) = 6
+status_of (Some (fault.Run f)) = 8
 status_of (Some (fault.Wrong entry part)) = 10
 
 -- a fault that can come while a scenario is read
@@ -20,6 +21,7 @@ IsReadingFault (fault.Scenario f) = Unit {0}
 IsReadingFault (fault.Trace f) = ⊥
 IsReadingFault fault.Read = Unit {0}
 IsReadingFault fault.Write = ⊥
+IsReadingFault (fault.Run f) = ⊥
 IsReadingFault fault.OutOfMemory = Unit {0}
 IsReadingFault (fault.Wrong entry part) = ⊥
 
@@ -30,8 +32,20 @@ IsPlayingFault (fault.Scenario f) = Unit {0}
 IsPlayingFault (fault.Trace f) = ⊥
 IsPlayingFault fault.Read = Unit {0}
 IsPlayingFault fault.Write = Unit {0}
+IsPlayingFault (fault.Run f) = ⊥
 IsPlayingFault fault.OutOfMemory = Unit {0}
 IsPlayingFault (fault.Wrong entry part) = ⊥
+
+-- while one is read, run and told
+abbrev pub IsRunningFault : TopFault → Type 0
+IsRunningFault fault.Usage = ⊥
+IsRunningFault (fault.Scenario f) = Unit {0}
+IsRunningFault (fault.Trace f) = ⊥
+IsRunningFault fault.Read = Unit {0}
+IsRunningFault fault.Write = Unit {0}
+IsRunningFault (fault.Run f) = Unit {0}
+IsRunningFault fault.OutOfMemory = Unit {0}
+IsRunningFault (fault.Wrong entry part) = ⊥
 
 -- while one is made, played and told
 abbrev pub IsMakingFault : TopFault → Type 0
@@ -40,6 +54,7 @@ IsMakingFault (fault.Scenario f) = ⊥
 IsMakingFault (fault.Trace f) = ⊥
 IsMakingFault fault.Read = ⊥
 IsMakingFault fault.Write = Unit {0}
+IsMakingFault (fault.Run f) = ⊥
 IsMakingFault fault.OutOfMemory = Unit {0}
 IsMakingFault (fault.Wrong entry part) = ⊥
 
@@ -50,6 +65,7 @@ IsTraceReadingFault (fault.Scenario f) = ⊥
 IsTraceReadingFault (fault.Trace f) = Unit {0}
 IsTraceReadingFault fault.Read = Unit {0}
 IsTraceReadingFault fault.Write = ⊥
+IsTraceReadingFault (fault.Run f) = ⊥
 IsTraceReadingFault fault.OutOfMemory = Unit {0}
 IsTraceReadingFault (fault.Wrong entry part) = ⊥
 
@@ -60,6 +76,7 @@ IsCheckingFault (fault.Scenario f) = ⊥
 IsCheckingFault (fault.Trace f) = Unit {0}
 IsCheckingFault fault.Read = Unit {0}
 IsCheckingFault fault.Write = Unit {0}
+IsCheckingFault (fault.Run f) = ⊥
 IsCheckingFault fault.OutOfMemory = Unit {0}
 IsCheckingFault (fault.Wrong entry part) = Unit {0}
 
@@ -71,5 +88,6 @@ HasWritten (Some (fault.Scenario f)) = ⊥
 HasWritten (Some (fault.Trace f)) = ⊥
 HasWritten (Some fault.Read) = ⊥
 HasWritten (Some fault.Write) = Unit {0}
+HasWritten (Some (fault.Run f)) = ⊥
 HasWritten (Some fault.OutOfMemory) = ⊥
 HasWritten (Some (fault.Wrong entry part)) = Unit {0}

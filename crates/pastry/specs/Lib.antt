@@ -11,5 +11,6 @@ pub mod Pointed
 pub mod Prepared
 pub mod Reading
 pub mod Runs
+pub mod Unfit
 pub mod VerdictTexts
 pub mod Written

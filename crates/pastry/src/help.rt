@@ -19,6 +19,7 @@ pub(crate) fn ask_for_help(words: &[RcStr]) -> bool {
 
 const MODES: &str = "\
 usage: pastry play < SCENARIO
+       pastry run < SCENARIO
        pastry big [--nodes N] [--seed N]
        pastry trace < SCENARIO
        pastry check < TRACE
@@ -27,6 +28,7 @@ usage: pastry play < SCENARIO
        pastry large [--nodes N] [--seed N] [--size N]
 
   play        plays the scenario on standard input, and writes its report
+  run         runs it, with each node as a thread, and writes the report of what came of that
   big         plays a scenario that it makes itself, and writes its summary and a tally
   trace       plays the scenario on standard input, and writes all that happened, as docs/TRACES.md has it
   messages    plays the scenario on standard input, and writes every message with its number, for people to read
@@ -37,8 +39,9 @@ usage: pastry play < SCENARIO
 
 const STATUSES: &str = "\
 Statuses: 0 done, 2 these words are refused, 3 the input is no scenario (for check: no trace), 4 the input could not be read,
-5 the output could not be written, 6 too little memory, 10 the trace is wrong, 120 the program could not be run before its
-proofs. README.md begins with an example, docs/TUTORIAL.md leads on from there, and docs/SCENARIOS.md has the language.";
+5 the output could not be written, 6 too little memory, 8 the scenario can't be run, 10 the trace is wrong, 120 the program could
+not be run before its proofs. README.md begins with an example, docs/TUTORIAL.md leads on from there, and docs/SCENARIOS.md has
+the language.";
 
 /// The modes, the options, the statuses, and where to read on. `scripts/usage` has the same text.
 #[derive(Clone, Copy)]

@@ -18,6 +18,7 @@ mod table;
 mod telling;
 #[cfg(test)]
 mod tests;
+mod threads;
 mod top;
 mod verdict;
 mod watched;
@@ -35,7 +36,7 @@ use std::rc::RcStr;
 use std::{io, mem};
 use telling::{
     tell_memory, tell_refused_words, tell_scenario_fault, tell_system_fault, tell_trace_fault,
-    tell_unreadable_words, tell_wrong,
+    tell_unfit, tell_unreadable_words, tell_wrong,
 };
 use top::top;
 use watched::{Seen, WatchedReader, WatchedWriter};
@@ -101,6 +102,7 @@ fn tell(rt: &HostRuntime, fault: &TopFault, met: &Met<'_>) {
     match fault {
         TopFault::Usage => tell_refused_words(rt, alloc, met.words),
         TopFault::Scenario(fault) => tell_scenario_fault(rt, alloc, fault, met.input.bytes()),
+        TopFault::Run(fault) => tell_unfit(rt, *fault, met.input.bytes()),
         TopFault::Trace(fault) => tell_trace_fault(rt, fault),
         TopFault::Read => tell_system_fault(rt, "the input could not be read", met.input.fault),
         TopFault::Write => tell_system_fault(

@@ -8,8 +8,10 @@ mod line;
 mod odd_byte;
 mod remark;
 mod shown;
+mod unfit;
 mod word_count;
 
 pub(crate) use before::Before;
 pub(crate) use explained::Explained;
 pub(crate) use shown::Grouped;
+pub(crate) use unfit::Unfit;

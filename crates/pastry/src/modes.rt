@@ -3,6 +3,7 @@
 ghost use Rattle.std.specs.Prelude.{◌≡◌, ◌≢◌, ◌≤◌, ◌⊎◌, Some, None, IsSome};
 ghost use Rattle.outside.specs.Rose.{Rose};
 ghost use Rattle.scenario_reader.specs.declared.fault.LineFault.{LineFault as Fault};
+ghost use Rattle.overlay_harness.specs.declared.fault.RunFault.{RunFault as CantRun};
 ghost use Rattle.trace_text.specs.declared.fault.TraceFault.{TraceFault as NoTrace};
 ghost use Rattle.trace_check.specs.declared.verdict.Part.{Part as WrongPart};
 ghost use Rattle.cli_words.specs.Command.{HasNumbersInRange};
@@ -11,6 +12,7 @@ ghost use Rattle.pastry.specs.Due.{IsDue};
 ghost use Rattle.pastry.specs.Faults.{status_of, HasWritten};
 ghost use Rattle.pastry.specs.Reading.{IsRefused};
 ghost use Rattle.pastry.specs.Runs.{IsAtItsText, IsDone, ReadsInput, ReadsScenario, limit_of};
+ghost use Rattle.pastry.specs.Unfit.{IsUnfit};
 ghost use Rattle.pastry.specs.Written.{IsTaken, IsBrokenOff, WasReadByCalls};
 
 use crate::checking::check_read;
@@ -20,12 +22,16 @@ use crate::output::Output;
 use crate::playing::{play_made, play_read};
 use crate::pointing::point_read;
 use crate::table::tell_read;
+use crate::threads::run_read;
 use cli_words::Mode;
 use outside::{Sink, Source, Turnstile};
 use std::alloc::Global;
+use std::sync::Wait;
+use std::thread::Threads;
 
 /// One run in a mode.
-pub(crate) fn run_mode<S: Source, K: Sink, T: Turnstile>(
+pub(crate) fn run_mode<R: Threads + Wait + Sync, S: Source, K: Sink, T: Turnstile + Sync>(
+    rt: &R,
     alloc: Global,
     mode: Mode,
     source: &mut S,
@@ -41,6 +47,7 @@ pub(crate) fn run_mode<S: Source, K: Sink, T: Turnstile>(
     ensures played { IsSome result.played → (result.fault ≡ None) ⊎ (result.fault ≡ Some TopFault.Write) }
     ensures nothing_written { ¬ HasWritten result.fault → sink.new ≡ sink.old }
     ensures refused { (f : Fault) → result.fault ≡ Some (TopFault.Scenario f) → ReadsScenario mode × IsRefused (S.left source.old) (S.left source.new) f }
+    ensures unfit { (f : CantRun) → result.fault ≡ Some (TopFault.Run f) → (mode ≡ Mode.Run) × IsUnfit (S.left source.old) (S.left source.new) f }
     ensures no_trace { (f : NoTrace) → result.fault ≡ Some (TopFault.Trace f) → (mode ≡ Mode.Check) × IsNoTrace (S.left source.old) (S.left source.new) f }
     ensures unread { result.fault ≡ Some TopFault.Read → ReadsInput mode × Rose (S.faults source.old) (S.faults source.new) }
     ensures unwritten { result.fault ≡ Some TopFault.Write → Rose (K.faults sink.old) (K.faults sink.new) }
@@ -52,6 +59,7 @@ pub(crate) fn run_mode<S: Source, K: Sink, T: Turnstile>(
 {
     match mode {
         Mode::Play => play_read(alloc, Output::Report, source, sink, turnstile),
+        Mode::Run => run_read(rt, alloc, source, sink, turnstile),
         Mode::Big { nodes, seed } => play_made(alloc, nodes, seed, sink, turnstile),
         Mode::Trace => play_read(alloc, Output::Trace, source, sink, turnstile),
         Mode::Check => check_read(alloc, source, sink),

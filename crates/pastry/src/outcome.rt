@@ -3,6 +3,7 @@
 ghost use Rattle.std.specs.Prelude.{◌≡◌, Some, None};
 ghost use Rattle.pastry.specs.Faults.{status_of};
 
+use overlay_harness::RunFault;
 use overlay_rules::Record;
 use scenario_reader::LineFault;
 use trace_check::Part;
@@ -21,6 +22,8 @@ pub enum TopFault {
     Read,
     /// The output could not be written.
     Write,
+    /// The scenario is none for `run`: its first line that a run can't have.
+    Run(RunFault),
     /// Memory was refused. It may come in the place of any other answer.
     OutOfMemory,
     /// The record of a trace is not legal. Its first entry, counted from 1, that may not stand where it stands, and what of it
@@ -49,6 +52,7 @@ impl TopFault {
             TopFault::Read => 4,
             TopFault::Write => 5,
             TopFault::OutOfMemory => 6,
+            TopFault::Run(_) => 8,
             TopFault::Wrong { .. } => 10,
         }
     }

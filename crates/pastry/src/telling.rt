@@ -3,8 +3,9 @@
 
 use crate::cause::Cause;
 use crate::help::{Help, ask_for_help};
-use crate::message::{Before, Explained, Grouped};
+use crate::message::{Before, Explained, Grouped, Unfit};
 use cli_words::check_words;
+use overlay_harness::RunFault;
 use scenario_reader::LineFault;
 use std::alloc::Global;
 use std::io;
@@ -51,6 +52,16 @@ pub(crate) fn tell_scenario_fault(
             "pastry: the input is no scenario, and too little memory is left to show where"
         ),
     };
+}
+
+/// The input, of which this was seen, is a scenario that can't be run.
+pub(crate) fn tell_unfit(rt: &HostRuntime, fault: RunFault, text: Option<&[u8]>) {
+    match fault {
+        RunFault::NotForRun { line } => {
+            let _ = eprintln!(rt; "pastry: {}", Unfit { number: line, text });
+        }
+        RunFault::OutOfMemory => tell_memory(rt),
+    }
 }
 
 /// The input is no trace.

@@ -4,6 +4,7 @@ ghost use Rattle.std.specs.Prelude.{◌≡◌, ◌≢◌, ◌≤◌, ◌↔◌, 
 ghost use Rattle.std.specs.Rc.{rc_str_bytes};
 ghost use Rattle.outside.specs.Rose.{Rose};
 ghost use Rattle.scenario_reader.specs.declared.fault.LineFault.{LineFault as Fault};
+ghost use Rattle.overlay_harness.specs.declared.fault.RunFault.{RunFault as CantRun};
 ghost use Rattle.trace_text.specs.declared.fault.TraceFault.{TraceFault as NoTrace};
 ghost use Rattle.trace_check.specs.declared.verdict.Part.{Part as WrongPart};
 ghost use Rattle.cli_words.specs.declared.mode.Mode.{Mode as Asked};
@@ -13,6 +14,7 @@ ghost use Rattle.pastry.specs.Checked.{HasFoundWrong, IsNoTrace};
 ghost use Rattle.pastry.specs.Faults.{status_of, HasWritten};
 ghost use Rattle.pastry.specs.Reading.{IsRefused};
 ghost use Rattle.pastry.specs.Runs.{IsAtItsText, IsDone, ReadsInput, ReadsScenario, limit_of};
+ghost use Rattle.pastry.specs.Unfit.{IsUnfit};
 ghost use Rattle.pastry.specs.Written.{IsTaken, IsBrokenOff, WasReadByCalls};
 
 use crate::modes::run_mode;
@@ -25,10 +27,11 @@ use std::sync::Wait;
 use std::thread::Threads;
 
 /// One run of the program. The words ask for a mode: `play` reads a scenario from the source, plays it, and writes its report to
-/// the sink; `trace` plays it, and writes the record itself; `points` plays it with access points; `big` plays a scenario that it
-/// makes, and writes its summary; `large` plays one that stores a large file and fetches it again, and writes what came of the
-/// file; `check` reads a trace, and writes whether its record is legal or where it is wrong first. The text is whole in memory
-/// before its first byte is written.
+/// the sink; `run` runs it, with each node as a thread, and writes the report of what came of that; `trace` plays it, and writes
+/// the record itself; `messages` plays it, and writes every message with its number, for people; `points` plays it with access
+/// points; `big` plays a scenario that it makes, and writes its summary; `large` plays one that stores a large file and fetches it
+/// again, and writes what came of the file; `check` reads a trace, and writes whether its record is legal or where it is wrong
+/// first. The text is whole in memory before its first byte is written.
 pub fn top<R: Threads + Wait + Sync, S: Source, K: Sink, T: Turnstile + Sync>(
     rt: &R,
     alloc: Global,
@@ -44,9 +47,10 @@ pub fn top<R: Threads + Wait + Sync, S: Source, K: Sink, T: Turnstile + Sync>(
     ensures nothing_written { ¬ HasWritten result.fault → sink.new ≡ sink.old }
 
     // Without a fault the words ask for a mode, and what it is to do was done, with a record that is handed out. In `play` and
-    // `trace` the source was read to its end, what it had is a scenario, and that was played; in `big` and `large` one was made and
-    // played, and the source is as it was; the record is the scenario's played record. In `points` the scenario that was read was
-    // played with access points, and the record is that of this play. In `check` the source was read to its end, what
+    // `trace` and `messages` the source was read to its end, what it had is a scenario, and that was played; in `big` and `large` one
+    // was made and played, and the source is as it was; the record is the scenario's played record. In `points` the scenario that
+    // was read was played with access points, and the record is that of this play. In `run` what was read is a scenario that can
+    // be run, and the record is one of its runs. In `check` the source was read to its end, what
     // it had is a trace, and the record is that of the trace, and legal. In each mode the headline holds of the record, whoever
     // made it: one owner per key, and one plain table of files. The sink took the whole text, by calls that offered each time
     // what was left. With a fault of the sink all is the same, but for the text, which breaks off at the call that failed; and
@@ -66,6 +70,7 @@ pub fn top<R: Threads + Wait + Sync, S: Source, K: Sink, T: Turnstile + Sync>(
     ensures untouched { (source.new ≡ source.old) ⊎ AskForOneThat (map rc_str_bytes words.now) (λ mode. ReadsInput mode × WasReadByCalls (limit_of mode) S.gives source.old source.new (result.fault ≡ Some TopFault.Read)) }
     ensures left_alone { (mode : Asked) → NamePlainly (map rc_str_bytes words.now) mode → ¬ ReadsInput mode → source.new ≡ source.old }
     ensures refused { (f : Fault) → result.fault ≡ Some (TopFault.Scenario f) → AskForOneThat (map rc_str_bytes words.now) ReadsScenario × IsRefused (S.left source.old) (S.left source.new) f }
+    ensures unfit { (f : CantRun) → result.fault ≡ Some (TopFault.Run f) → AskFor (map rc_str_bytes words.now) Mode.Run × IsUnfit (S.left source.old) (S.left source.new) f }
     ensures no_trace { (f : NoTrace) → result.fault ≡ Some (TopFault.Trace f) → AskFor (map rc_str_bytes words.now) Mode.Check × IsNoTrace (S.left source.old) (S.left source.new) f }
     ensures unread { result.fault ≡ Some TopFault.Read → AskForOneThat (map rc_str_bytes words.now) ReadsInput × Rose (S.faults source.old) (S.faults source.new) }
     ensures unwritten { result.fault ≡ Some TopFault.Write → Rose (K.faults sink.old) (K.faults sink.new) }
@@ -82,9 +87,8 @@ pub fn top<R: Threads + Wait + Sync, S: Source, K: Sink, T: Turnstile + Sync>(
     ensures steady { ((t : S) → S.faults t ≡ 0) → ((k : K) → K.faults k ≡ 0) → (mode : Asked) → NamePlainly (map rc_str_bytes words.now) mode →
         IsDue mode ⊥ ⊥ (S.left source.old) result.fault }
 {
-    let _ = rt;
     match read_words(alloc, words) {
-        Ok(mode) => run_mode(alloc, mode, source, sink, turnstile),
+        Ok(mode) => run_mode(rt, alloc, mode, source, sink, turnstile),
         Err(WordFault::Usage) => Outcome::refused(TopFault::Usage),
         Err(WordFault::OutOfMemory) => Outcome::refused(TopFault::OutOfMemory),
     }

@@ -1,8 +1,9 @@
-use Rattle.cli_words.specs.declared.mode.Mode.TheVariants.{Play, Big, Trace, Check, Points, Large, Messages}
+use Rattle.cli_words.specs.declared.mode.Mode.TheVariants.{Play, Run, Big, Trace, Check, Points, Large, Messages}
 use Rattle.pastry.proofs.Endings.{answers}
 use Rattle.pastry.proofs.Judging.{judges, judged_legal, judged_wrong}
 use Rattle.pastry.proofs.InMode.{at_its_text_in, done_in, due_in}
 use Rattle.pastry.proofs.Played.{HasPlayedLarge-from_made, HasPlayedMade-from_made}
+use Rattle.pastry.proofs.Runs.{is_run_rightly}
 use Rattle.pastry.proofs.modes.run_mode.Goals as goal
 
 pub returns-in-Play-clause-due : goal.returns-in-Play-clause-due
@@ -13,6 +14,17 @@ returns-in-Play-clause-due g c =
       refused = c.play_read.ensures.refused;
       unread = c.play_read.ensures.unread;
       unwritten = c.play_read.ensures.unwritten;
+    }) source sink)
+
+pub returns-in-Run-clause-due : goal.returns-in-Run-clause-due
+returns-in-Run-clause-due g c =
+    due_in _ Run c.in-Run.is _ _ _ _ (λ source sink. is_run_rightly _ _ _ _ _ (record {
+      kind = c.run_read.ensures.kind;
+      done = λ e. let run = c.run_read.ensures.done e in record { scenario = run.scenario; read = run.from.0; fit = run.from.1 };
+      refused = c.run_read.ensures.refused;
+      unfit = c.run_read.ensures.unfit;
+      unread = c.run_read.ensures.unread;
+      unwritten = c.run_read.ensures.unwritten;
     }) source sink)
 
 pub returns-in-Big-clause-done : goal.returns-in-Big-clause-done

@@ -57,6 +57,11 @@ returns-in-Ok-clause-wrong g c = λ entry part e.
     let said = c.run_mode.ensures.wrong entry part e in
     (AskFor-from_read _ _ _ said.0 (record { reads = c.in-Ok.ensures.reads; plain = c.in-Ok.ensures.plain }), said.1)
 
+pub returns-in-Ok-clause-unfit : goal.returns-in-Ok-clause-unfit
+returns-in-Ok-clause-unfit g c = λ f e.
+    let said = c.run_mode.ensures.unfit f e in
+    (AskFor-from_read _ _ _ said.0 (record { reads = c.in-Ok.ensures.reads; plain = c.in-Ok.ensures.plain }), said.1)
+
 pub returns-in-Ok-clause-no_trace : goal.returns-in-Ok-clause-no_trace
 returns-in-Ok-clause-no_trace g c = λ f e.
     let said = c.run_mode.ensures.no_trace f e in
