@@ -37,8 +37,8 @@ data Ended (left left_after : Option (List ℕ)) (answered : Option TopFault) : 
   Unfit : (line : ℕ) (read : HasUnfitLine left left_after line) (is : answered ≡ Some (fault.Run (run_fault.NotForRun line))) → Ended left left_after answered
   Short : (is : answered ≡ Some fault.OutOfMemory) → Ended left left_after answered
 
-same_scenario : {s t : PlainScenario} {xs : List ℕ} → scenario_of xs ≡ Ok s → scenario_of xs ≡ Ok t → s ≡ t
-same_scenario e h = cc
+same_scenario : (s t : PlainScenario) (xs : List ℕ) → scenario_of xs ≡ Ok s → scenario_of xs ≡ Ok t → s ≡ t
+same_scenario s t xs e h = cc
 
 same_line : {m n : ℕ} {found : Option ℕ} → found ≡ Some m → found ≡ Some n → m ≡ n
 same_line e h = cc
@@ -64,11 +64,11 @@ module _ (left left_after : Option (List ℕ)) (rose_source rose_sink : Type 0) 
   line_of_read : (xs : List ℕ) (s : PlainScenario) (line : ℕ) → left ≡ Some xs → scenario_of xs ≡ Ok s → HasUnfitLine left left_after line →
       first_unfit_line s ≡ Some line
   line_of_read xs s line e is read =
-      subst (λ (t : PlainScenario). first_unfit_line t ≡ Some line) (same_scenario (read_bytes xs left left_after read.scenario e read.read) is) read.first
+      subst (λ (t : PlainScenario). first_unfit_line t ≡ Some line) (same_scenario read.scenario s xs (read_bytes xs left left_after read.scenario e read.read) is) read.first
 
   fit_as_read : (xs : List ℕ) (s : PlainScenario) → left ≡ Some xs → scenario_of xs ≡ Ok s → WasFit left left_after → first_unfit_line s ≡ None
   fit_as_read xs s e is read =
-      subst (λ (t : PlainScenario). first_unfit_line t ≡ None) (same_scenario (read_bytes xs left left_after read.scenario e read.read) is) read.fit
+      subst (λ (t : PlainScenario). first_unfit_line t ≡ None) (same_scenario read.scenario s xs (read_bytes xs left left_after read.scenario e read.read) is) read.fit
 
   runs : (answered : Option TopFault) → Ended left left_after answered → (xs : List ℕ) (s : PlainScenario) → left ≡ Some xs → scenario_of xs ≡ Ok s →
       first_unfit_line s ≡ None → DoneOr answered None

@@ -41,9 +41,9 @@ fn prepare_pointed(alloc: Global, scenario: &Scenario, room: usize) -> Result<Pr
     requires few { room ≤ MOST_ROOM }
     ensures { IfOk result (λ p. IsToBeTold scenario.now room p.record p.text) }
 {
-    let run = play_pointed(alloc, scenario, room)?;
-    let text = report_points(alloc, scenario, &run)?;
-    let PointRun { steps, .. } = run;
+    let pointed = play_pointed(alloc, scenario, room)?;
+    let text = report_points(alloc, scenario, &pointed)?;
+    let PointRun { steps, .. } = pointed;
     Ok(Prepared {
         record: steps,
         text,
