@@ -16,8 +16,6 @@ pub mod HandOver
 pub mod Serving
 pub mod Made
 pub mod Ending
-pub mod Stamps
-pub mod Bounds
 mod Without
 pub mod Workers
 pub mod Driving

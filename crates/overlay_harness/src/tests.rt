@@ -1,17 +1,15 @@
 //! Stages, lines that can't be run, and runs of small scenarios by hand and by threads. What is expected is read off the rules of
 //! the scenario language and of nodes.
 
-ghost use Rattle.std.specs.Prelude.{◌≡◌, ◌<◌, None};
+ghost use Rattle.std.specs.Prelude.{◌<◌};
 
-use crate::enough::{came_at_most, noise_is_theirs};
+use crate::enough::came_at_most;
 use crate::hand::ends_after;
 use crate::{
     RunFault, cells_served_by_hand, first_unfit_line, hand_over_unread, run, run_by_hand, stages,
 };
-use node_cell::{CellFault, NodeCell};
+use node_cell::NodeCell;
 use outside::{FreePass, Turnstile};
-use overlay_rules::{EntryRef, EventRef, Record};
-use ring_math::Id;
 use scenario_reader::read_scenario;
 use schedule::make_scenario;
 use std::alloc::Global;
@@ -39,10 +37,6 @@ const HURRIED: &[u8] =
 /// Noise comes to the first node twice in a stage of two copies, and to both in a stage of three.
 const NOISY: &[u8] =
     b"node A 10000000000000000000000000000000\nnode B 90000000000000000000000000000000\nfirst A\ndup 2\nnoise A 00\nnoise A -\nsettle 9\nnoise B 01\nnoise A 02\ndup 3\nsettle 9\n";
-
-/// Noise that comes to the only node once.
-const NOISY_ONCE: &[u8] =
-    b"node A 10000000000000000000000000000000\nfirst A\nnoise A 00\nsettle 9\n";
 
 /// A shuffle, and then a deliver.
 const CHOOSING: &[u8] =
@@ -232,28 +226,13 @@ fn what_is_left_is_handed_over_late(rt: HostRuntime) -> Result<(), Fail> {
     Ok(())
 }
 
-fn is_noise(entry: &EntryRef) -> bool {
-    matches!(entry.event, EventRef::Noise { .. })
-}
-
-/// How often noise came in a record.
-fn noise_in(steps: &Record) -> usize {
-    let mut count: usize = 0;
-    for place in 0..steps.entries.len() {
-        if is_noise(&steps.entries.at(place)) {
-            count = count.saturating_add(1);
-        }
-    }
-    count
-}
-
-/// Two noises twice, and two three times.
+/// Two noises come twice, and two three times: there are no other entries.
 #[test]
 fn noise_comes_as_often_as_it_is_put(rt: HostRuntime) -> Result<(), Fail> {
     let noisy = read_scenario(rt.alloc(), NOISY)?;
     let steps = run(&rt, rt.alloc(), &noisy, &FreePass)?;
     assert_eq!(rt; steps.entries.len(), 10);
-    assert_eq!(rt; noise_in(&steps), 10);
+    assert_eq!(rt; steps.entries.sent().len(), 0);
     Ok(())
 }
 
@@ -263,37 +242,6 @@ fn no_noise_comes_by_hand(rt: HostRuntime) -> Result<(), Fail> {
     let noisy = read_scenario(rt.alloc(), NOISY)?;
     let steps = run_by_hand(rt.alloc(), &noisy)?;
     assert_eq!(rt; steps.entries.len(), 0);
-    Ok(())
-}
-
-/// Bytes that are no frame come to the cell.
-fn take_noise(cell: &mut NodeCell, alloc: Global) -> Result<(), CellFault>
-    requires { cell.old.carried ≡ None }
-    ensures { cell.new.carried ≡ None }
-{
-    cell.handle(alloc, &[])
-}
-
-fn with_it(alloc: Global, cell: NodeCell) -> Result<Vec<NodeCell>, Fail> {
-    let mut cells = Vec::new(alloc);
-    cells.push(cell)?;
-    Ok(cells)
-}
-
-/// A frame that a mailbox hands out twice would come to this.
-#[test]
-fn noise_that_comes_too_often_is_found(rt: HostRuntime) -> Result<(), Fail> {
-    let noisy = read_scenario(rt.alloc(), NOISY_ONCE)?;
-    let stages = stages(rt.alloc(), &noisy)?;
-    let mut once = NodeCell::new(rt.alloc(), Id(0x10 << 120), true)?;
-    take_noise(&mut once, rt.alloc())?;
-    let mut twice = NodeCell::new(rt.alloc(), Id(0x10 << 120), true)?;
-    take_noise(&mut twice, rt.alloc())?;
-    take_noise(&mut twice, rt.alloc())?;
-    let once = with_it(rt.alloc(), once)?;
-    assert!(rt; noise_is_theirs(&once, &stages));
-    let twice = with_it(rt.alloc(), twice)?;
-    assert!(rt; !noise_is_theirs(&twice, &stages));
     Ok(())
 }
 

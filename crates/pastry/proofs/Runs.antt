@@ -64,11 +64,13 @@ module _ (left left_after : Option (List ℕ)) (rose_source rose_sink : Type 0) 
   line_of_read : (xs : List ℕ) (s : PlainScenario) (line : ℕ) → left ≡ Some xs → scenario_of xs ≡ Ok s → HasUnfitLine left left_after line →
       first_unfit_line s ≡ Some line
   line_of_read xs s line e is read =
-      subst (λ (t : PlainScenario). first_unfit_line t ≡ Some line) (same_scenario read.scenario s xs (read_bytes xs left left_after read.scenario e read.read) is) read.first
+      subst (λ (t : PlainScenario). first_unfit_line t ≡ Some line)
+      (same_scenario read.scenario s xs (read_bytes xs left left_after read.scenario e read.read) is) read.first
 
   fit_as_read : (xs : List ℕ) (s : PlainScenario) → left ≡ Some xs → scenario_of xs ≡ Ok s → WasFit left left_after → first_unfit_line s ≡ None
   fit_as_read xs s e is read =
-      subst (λ (t : PlainScenario). first_unfit_line t ≡ None) (same_scenario read.scenario s xs (read_bytes xs left left_after read.scenario e read.read) is) read.fit
+      subst (λ (t : PlainScenario). first_unfit_line t ≡ None)
+      (same_scenario read.scenario s xs (read_bytes xs left left_after read.scenario e read.read) is) read.fit
 
   runs : (answered : Option TopFault) → Ended left left_after answered → (xs : List ℕ) (s : PlainScenario) → left ≡ Some xs → scenario_of xs ≡ Ok s →
       first_unfit_line s ≡ None → DoneOr answered None
