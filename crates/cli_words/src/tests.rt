@@ -78,7 +78,7 @@ fn refuses_other_words(rt: HostRuntime) -> Result<(), Fail> {
     let refused: [&[&str]; 15] = [
         &[],
         &["pastry"],
-        &["pastry", "points"],
+        &["pastry", "draw"],
         &["pastry", "groups"],
         &["pastry", "Play"],
         &["pastry", "play", "play"],
