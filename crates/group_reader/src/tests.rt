@@ -2,143 +2,123 @@
 
 use crate::read_groups;
 use scenario_reader::LineFault;
-use scribe_core::{GroupCommand, GroupWhat};
 use std::alloc::Global;
 use std::test::Fail;
 
+/// Part one of each script, of two lines.
 const PART_ONE: &[u8] = b"node A 10000000000000000000000000000000\nfirst A\n";
 
 #[test]
 fn reads_both_parts(rt: HostRuntime) -> Result<(), Fail> {
-    let input = with_lines(
-        rt.alloc(),
-        b"groups\n# a comment\nsubscribe A g\n publish  A g 6869\nleave A g\nsettle 5\n\ndeliver 0",
-    )?;
+    let lines =
+        b"groups\n# a comment\nsubscribe A g\n publish  A g 6869\nleave A g\nsettle 5\n\ndeliver 0";
+    let input = with_lines(rt.alloc(), lines)?;
     let script = read_groups(rt.alloc(), &input)?;
     assert_eq!(rt; script.scenario().nodes().len(), 1);
-    assert_eq!(rt; script.scenario().actions().len(), 0);
     assert_eq!(rt; script.actions().len(), 5);
-    let mut lines = 0;
-    let mut publications = 0;
+    let mut last = 0;
     for action in script.actions() {
-        lines = action.line;
-        if let GroupWhat::Command {
-            number: 2,
-            command: GroupCommand::Publish { bytes },
-            ..
-        } = &action.what
-        {
-            assert_eq!(rt; bytes.as_slice(), b"hi".as_slice());
-            publications = action.line;
-        }
+        last = action.line;
     }
-    assert_eq!(rt; publications, 6);
-    assert_eq!(rt; lines, 10);
+    assert_eq!(rt; last, 10);
     Ok(())
 }
 
-/// The first line that is exactly `groups` begins part two, and only that.
+/// The fault is that of the first line at fault, of that line the first check that fails, and there of the leftmost word. The
+/// first line that is exactly `groups` begins part two, and only that.
 #[test]
-fn cuts_at_the_first_line_alone(rt: HostRuntime) -> Result<(), Fail> {
-    assert_eq!(rt;
-        fault(rt.alloc(), b"# groups\n groups\n")?,
-        Some(LineFault::Word { line: 4, place: 1 })
-    );
-    assert_eq!(rt;
-        fault(rt.alloc(), b"groups\ngroups\n")?,
-        Some(LineFault::Word { line: 4, place: 0 })
-    );
-    assert_eq!(rt; fault(rt.alloc(), b"groups")?, None);
-    assert_eq!(rt;
-        fault(rt.alloc(), b"")?,
-        Some(LineFault::Word { line: 3, place: 0 })
-    );
-    assert_eq!(rt;
-        fault(rt.alloc(), b"settle 1\n")?,
-        Some(LineFault::Word { line: 4, place: 0 })
-    );
-    Ok(())
-}
-
-#[test]
-fn refuses_words_and_counts(rt: HostRuntime) -> Result<(), Fail> {
-    assert_eq!(rt;
-        fault(rt.alloc(), b"groups\nsubscribe A g\x07")?,
-        Some(LineFault::NotText { line: 4, place: 13 })
-    );
-    assert_eq!(rt;
-        fault(rt.alloc(), b"groups\n join A A")?,
-        Some(LineFault::Word { line: 4, place: 1 })
-    );
-    assert_eq!(rt;
-        fault(rt.alloc(), b"groups\nsubscribe A")?,
-        Some(LineFault::Count { line: 4, found: 2 })
-    );
-    assert_eq!(rt;
-        fault(rt.alloc(), b"groups\nleave A g g")?,
-        Some(LineFault::Count { line: 4, found: 4 })
-    );
-    assert_eq!(rt;
-        fault(rt.alloc(), b"groups\npublish A g")?,
-        Some(LineFault::Count { line: 4, found: 3 })
-    );
-    assert_eq!(rt;
-        fault(rt.alloc(), b"groups\nsettle")?,
-        Some(LineFault::Count { line: 4, found: 1 })
-    );
-    assert_eq!(rt;
-        fault(rt.alloc(), b"groups\ndeliver 1 2")?,
-        Some(LineFault::Count { line: 4, found: 3 })
-    );
-    Ok(())
-}
-
-/// A number before bytes, bytes before names, and names before limits.
-#[test]
-fn refuses_in_the_order_of_the_checks(rt: HostRuntime) -> Result<(), Fail> {
-    assert_eq!(rt;
-        fault(rt.alloc(), b"groups\nsettle 01")?,
-        Some(LineFault::Number { line: 4, place: 7 })
-    );
-    assert_eq!(rt;
-        fault(rt.alloc(), b"groups\ndeliver -")?,
-        Some(LineFault::Number { line: 4, place: 8 })
-    );
-    assert_eq!(rt;
-        fault(rt.alloc(), b"groups\npublish B - 123")?,
-        Some(LineFault::Hex { line: 4, place: 12 })
-    );
-    assert_eq!(rt;
-        fault(rt.alloc(), b"groups\npublish B - 12")?,
-        Some(LineFault::Name { line: 4, place: 8 })
-    );
-    assert_eq!(rt;
-        fault(rt.alloc(), b"groups\npublish A - 12")?,
-        Some(LineFault::Name { line: 4, place: 10 })
-    );
-    assert_eq!(rt; fault(rt.alloc(), b"groups\npublish A B -")?, None);
-    Ok(())
-}
-
-/// Each deliver counts 1, and each settle its number.
-#[test]
-fn limits_deliveries(rt: HostRuntime) -> Result<(), Fail> {
-    assert_eq!(rt;
-        fault(rt.alloc(), b"groups\nsettle 1000001")?,
-        Some(LineFault::Limit { line: 4, place: 7 })
-    );
-    assert_eq!(rt;
-        fault(rt.alloc(), b"groups\nsettle 1000000\nsettle 0")?,
-        None
-    );
-    assert_eq!(rt;
-        fault(rt.alloc(), b"groups\nsettle 1000000\ndeliver 0")?,
-        Some(LineFault::Limit { line: 5, place: 8 })
-    );
-    assert_eq!(rt;
-        fault(rt.alloc(), b"groups\ndeliver 7\nsettle 1000000")?,
-        Some(LineFault::Limit { line: 5, place: 7 })
-    );
+fn refuses_lines(rt: HostRuntime) -> Result<(), Fail> {
+    let refused: [(&[u8], LineFault); 26] = [
+        (b"", LineFault::Word { line: 3, place: 0 }),
+        (b"# groups", LineFault::Word { line: 4, place: 0 }),
+        (b" groups\n", LineFault::Word { line: 3, place: 1 }),
+        (b"groups \n", LineFault::Word { line: 3, place: 0 }),
+        (b"groups\ngroups", LineFault::Word { line: 4, place: 0 }),
+        (b"groups\n join A A", LineFault::Word { line: 4, place: 1 }),
+        (
+            b"groups\nsettle 1\x07",
+            LineFault::NotText { line: 4, place: 8 },
+        ),
+        (
+            b"groups\nsubscribe A",
+            LineFault::Count { line: 4, found: 2 },
+        ),
+        (
+            b"groups\nleave A g g",
+            LineFault::Count { line: 4, found: 4 },
+        ),
+        (
+            b"groups\npublish A g",
+            LineFault::Count { line: 4, found: 3 },
+        ),
+        (b"groups\n\nsettle", LineFault::Count { line: 5, found: 1 }),
+        (
+            b"groups\ndeliver 1 2",
+            LineFault::Count { line: 4, found: 3 },
+        ),
+        (
+            b"groups\nsettle 01",
+            LineFault::Number { line: 4, place: 7 },
+        ),
+        (
+            b"groups\ndeliver -",
+            LineFault::Number { line: 4, place: 8 },
+        ),
+        (
+            b"groups\ndeliver 18446744073709551616",
+            LineFault::Number { line: 4, place: 8 },
+        ),
+        // Bytes before names, and names from the left.
+        (
+            b"groups\npublish B ? 123",
+            LineFault::Hex { line: 4, place: 12 },
+        ),
+        (
+            b"groups\npublish A g x",
+            LineFault::Hex { line: 4, place: 12 },
+        ),
+        (
+            b"groups\npublish B ? 12",
+            LineFault::Name { line: 4, place: 8 },
+        ),
+        (
+            b"groups\npublish A ? 12",
+            LineFault::Name { line: 4, place: 10 },
+        ),
+        (
+            b"groups\nsubscribe B g",
+            LineFault::Name { line: 4, place: 10 },
+        ),
+        (
+            b"groups\nleave A a-b",
+            LineFault::Name { line: 4, place: 8 },
+        ),
+        (
+            b"groups\nleave A abcdefghijabcdefghijabcdefghijabc",
+            LineFault::Name { line: 4, place: 8 },
+        ),
+        // A settle counts its number, and a deliver 1.
+        (
+            b"groups\nsettle 1000001",
+            LineFault::Limit { line: 4, place: 7 },
+        ),
+        (
+            b"groups\nsettle 1000000\ndeliver 0",
+            LineFault::Limit { line: 5, place: 8 },
+        ),
+        (
+            b"groups\ndeliver 7\nsettle 1000000",
+            LineFault::Limit { line: 5, place: 7 },
+        ),
+        (
+            b"lookup A 00\ngroups\nsettle",
+            LineFault::Hex { line: 3, place: 9 },
+        ),
+    ];
+    for (lines, fault) in refused {
+        let input = with_lines(rt.alloc(), lines)?;
+        assert_eq!(rt; read_groups(rt.alloc(), &input).err(), Some(fault));
+    }
     Ok(())
 }
 
@@ -146,18 +126,14 @@ fn limits_deliveries(rt: HostRuntime) -> Result<(), Fail> {
 #[test]
 fn limits_lines(rt: HostRuntime) -> Result<(), Fail> {
     let mut input = with_lines(rt.alloc(), b"groups\n")?;
-    for _line in 0..10_000 {
-        input.extend_from_slice(b"#\n")?;
-    }
-    assert_eq!(rt; fault_of(rt.alloc(), &input), None);
-    input.extend_from_slice(b"#")?;
-    assert_eq!(rt;
-        fault_of(rt.alloc(), &input),
-        Some(LineFault::Limit {
-            line: 10_004,
-            place: 0
-        })
-    );
+    add(&mut input, b"#\n", 10_000)?;
+    assert!(rt; read_groups(rt.alloc(), &input).is_ok());
+    add(&mut input, b"#", 1)?;
+    let fault = LineFault::Limit {
+        line: 10_004,
+        place: 0,
+    };
+    assert_eq!(rt; read_groups(rt.alloc(), &input).err(), Some(fault));
     Ok(())
 }
 
@@ -165,37 +141,15 @@ fn limits_lines(rt: HostRuntime) -> Result<(), Fail> {
 #[test]
 fn limits_bytes(rt: HostRuntime) -> Result<(), Fail> {
     let mut input = with_lines(rt.alloc(), b"groups\npublish A g ")?;
-    for _byte in 0..4_096 {
-        input.extend_from_slice(b"ab")?;
-    }
-    assert_eq!(rt; fault_of(rt.alloc(), &input), None);
-    input.extend_from_slice(b"ab")?;
-    assert_eq!(rt;
-        fault_of(rt.alloc(), &input),
-        Some(LineFault::Limit { line: 4, place: 12 })
-    );
-    for _byte in 0..400 {
-        input.extend_from_slice(b"ab")?;
-    }
-    assert_eq!(rt;
-        fault_of(rt.alloc(), &input),
-        Some(LineFault::TooLong { line: 4 })
-    );
+    add(&mut input, b"ab", 4_096)?;
+    assert!(rt; read_groups(rt.alloc(), &input).is_ok());
+    add(&mut input, b"ab", 1)?;
+    let fault = LineFault::Limit { line: 4, place: 12 };
+    assert_eq!(rt; read_groups(rt.alloc(), &input).err(), Some(fault));
+    add(&mut input, b"ab", 400)?;
+    let fault = LineFault::TooLong { line: 4 };
+    assert_eq!(rt; read_groups(rt.alloc(), &input).err(), Some(fault));
     Ok(())
-}
-
-/// A fault of part one comes before those of part two, and before the want of a line `groups`.
-#[test]
-fn part_one_comes_first(rt: HostRuntime) {
-    let no_founder = b"node A 10000000000000000000000000000000\ngroups\nsettle";
-    assert_eq!(rt;
-        fault_of(rt.alloc(), no_founder),
-        Some(LineFault::NoFounder { line: 2 })
-    );
-    assert_eq!(rt;
-        fault_of(rt.alloc(), b"settle"),
-        Some(LineFault::Count { line: 1, found: 1 })
-    );
 }
 
 /// Part one and these lines.
@@ -206,14 +160,10 @@ fn with_lines(alloc: Global, lines: &[u8]) -> Result<Vec<u8>, Fail> {
     Ok(input)
 }
 
-fn fault(alloc: Global, lines: &[u8]) -> Result<Option<LineFault>, Fail> {
-    let input = with_lines(alloc, lines)?;
-    Ok(fault_of(alloc, &input))
-}
-
-fn fault_of(alloc: Global, input: &[u8]) -> Option<LineFault> {
-    match read_groups(alloc, input) {
-        Ok(_script) => None,
-        Err(fault) => Some(fault),
+/// A text so many times behind an input.
+fn add(input: &mut Vec<u8>, text: &[u8], times: u32) -> Result<(), Fail> {
+    for _time in 0..times {
+        input.extend_from_slice(text)?;
     }
+    Ok(())
 }
