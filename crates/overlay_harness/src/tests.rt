@@ -4,11 +4,7 @@
 ghost use Rattle.std.specs.Prelude.{◌<◌};
 
 use crate::enough::came_at_most;
-use crate::hand::ends_after;
-use crate::{
-    RunFault, cells_served_by_hand, first_unfit_line, hand_over_unread, run, run_by_hand, stages,
-};
-use node_cell::NodeCell;
+use crate::{RunFault, first_unfit_line, run, run_by_hand, stages};
 use outside::{FreePass, Turnstile};
 use scenario_reader::read_scenario;
 use schedule::make_scenario;
@@ -202,27 +198,6 @@ fn two_nodes_meet(rt: HostRuntime) -> Result<(), Fail> {
     run(&rt, rt.alloc(), &hurried, &meeting)?;
     assert!(rt; meeting.saw[0].load(Ordering::SeqCst));
     assert!(rt; meeting.saw[1].load(Ordering::SeqCst));
-    Ok(())
-}
-
-/// How many entries all histories have.
-fn entries(cells: &[NodeCell]) -> usize {
-    let mut count: usize = 0;
-    for cell in cells {
-        count = count.saturating_add(cell.history().len());
-    }
-    count
-}
-
-/// The request for the join, and the answer: each node took one frame. All eight messages of the join come late.
-#[test]
-fn what_is_left_is_handed_over_late(rt: HostRuntime) -> Result<(), Fail> {
-    let hurried = read_scenario(rt.alloc(), HURRIED)?;
-    let mut cells = cells_served_by_hand(rt.alloc(), &hurried)?;
-    assert_eq!(rt; entries(&cells), 3);
-    let ends = ends_after(rt.alloc(), &cells, 10)?;
-    hand_over_unread(rt.alloc(), &mut cells, &ends)?;
-    assert_eq!(rt; entries(&cells), 9);
     Ok(())
 }
 
