@@ -115,9 +115,9 @@ newest_settled : (n : ℕ) (overlay : World) (count : ℕ) (es : List GroupEntry
 newest_settled n overlay zero es h = h
 newest_settled n overlay (suc count) es h =
     newest_settled n overlay count (delivered_oldest overlay (oldest_undelivered es) es) (one (oldest_undelivered es)) where
-  one : (o : Option ℕ) → IsNewest n (delivered_oldest overlay o es)
-  one None = h
-  one (Some m) = newest_push n overlay es (event.Deliver m) h tt
+      one : (o : Option ℕ) → IsNewest n (delivered_oldest overlay o es)
+      one None = h
+      one (Some m) = newest_push n overlay es (event.Deliver m) h tt
 
 newest_once : (n : ℕ) (overlay : World) (m : ℕ) (es : List GroupEntry) → IsNewest n es → IsNewest n (delivered_once overlay m es)
 newest_once n overlay m es h = by_test (nat_lt m (length (sent_in es))) where

@@ -18,7 +18,7 @@ unmarked_are_undelivered es [] m h = refl
 unmarked_are_undelivered es (mark ∷ marks) m h =
     sum_by-cons (λ t. cond (not t) 1 0) mark marks
     ∙ ap (λ k. cond (not mark) 1 0 + k) (unmarked_are_undelivered es marks (suc m) (λ k lt.
-        let e : m + suc k ≡ suc m + k = omega arith in h (suc k) (omega arith) ∙ ap (was_delivered es) e))
+    let e : m + suc k ≡ suc m + k = omega arith in h (suc k) (omega arith) ∙ ap (was_delivered es) e))
     ∙ ap (λ t. cond (not t) 1 0 + undelivered_among es (suc m) (length marks)) (h 0 (omega arith) ∙ ap (was_delivered es) (add-zero m))
     ∙ by_test (was_delivered es m) where
       by_test : (t : Bool) → cond (not t) 1 0 + undelivered_among es (suc m) (length marks)

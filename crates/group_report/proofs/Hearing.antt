@@ -30,5 +30,5 @@ lines_next nodes es i e before after l is more =
     ap (λ text. text ++ lines_after nodes (sent_in (take (i + 1) es)) (drop (i + 1) es)) more
     ∙ append_assoc before (entry_lines nodes (visit (sent_in (take i es)) e.event) e.notes) (lines_after nodes (sent_in (take (i + 1) es)) (drop (i + 1) es))
     ∙ ap (λ text. before ++ text)
-      (ap (λ sent. entry_lines nodes (visit (sent_in (take i es)) e.event) e.notes ++ lines_after nodes sent (drop (i + 1) es)) (sent_more es i e l is)
-      ∙ ap (lines_after nodes (sent_in (take i es))) (sym (drop_more es i e l ∙ ap (λ (d : GroupEntry). d ∷ drop (i + 1) es) (sym is))))
+    (ap (λ sent. entry_lines nodes (visit (sent_in (take i es)) e.event) e.notes ++ lines_after nodes sent (drop (i + 1) es)) (sent_more es i e l is)
+    ∙ ap (lines_after nodes (sent_in (take i es))) (sym (drop_more es i e l ∙ ap (λ (d : GroupEntry). d ∷ drop (i + 1) es) (sym is))))

@@ -39,10 +39,7 @@ pub(crate) fn answer_lines(
 }
 
 /// The first answer to each command that has one.
-fn answers_in(
-    alloc: Global,
-    entries: &[GroupEntry],
-) -> Result<BTreeMap<u64, Answer>, OutOfMemory>
+fn answers_in(alloc: Global, entries: &[GroupEntry]) -> Result<BTreeMap<u64, Answer>, OutOfMemory>
     ensures { IfOk result (λ answers. (n : ℕ) → get nat_cmp answers n ≡ answer_to n (notes_in entries.now)) }
 {
     let mut answers = BTreeMap::new(alloc);
@@ -53,10 +50,7 @@ fn answers_in(
 }
 
 /// Adds the first answer to each command that has none yet.
-fn add_answers(
-    answers: &mut BTreeMap<u64, Answer>,
-    notes: &[GroupNote],
-) -> Result<(), OutOfMemory>
+fn add_answers(answers: &mut BTreeMap<u64, Answer>, notes: &[GroupNote]) -> Result<(), OutOfMemory>
     ensures { OnOk result ((n : ℕ) → get nat_cmp answers.new n ≡ or_later (get nat_cmp answers.old n) (answer_to n notes.now)) }
 {
     for note in notes {
@@ -103,11 +97,7 @@ fn answer_in(note: &GroupNote) -> Option<(u64, Answer)>
 }
 
 /// Writes the line of a command, if it was answered.
-fn put_answer(
-    text: &mut Text,
-    number: u64,
-    answer: Option<Answer>,
-) -> Result<(), OutOfMemory>
+fn put_answer(text: &mut Text, number: u64, answer: Option<Answer>) -> Result<(), OutOfMemory>
     ensures { OnOk result (text.new ≡ text.old ++ answer_line number answer) }
 {
     let Some(answer) = answer else {

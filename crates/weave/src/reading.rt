@@ -88,11 +88,7 @@ fn are_all_taken(
     Ok(true)
 }
 
-fn are_taken(
-    alloc: Global,
-    sent: &[Envelope],
-    taken: &[&Envelope],
-) -> Result<bool, OutOfMemory>
+fn are_taken(alloc: Global, sent: &[Envelope], taken: &[&Envelope]) -> Result<bool, OutOfMemory>
     requires { AreByStamp (envelopes_at taken.now) }
     ensures yes { IfOk result (λ all. all ≡ true → All (Contains (envelopes_at taken.now)) (map plain_envelope sent.now)) }
     ensures no { IfOk result (λ all. all ≡ false → HasMissing (envelopes_at taken.now) (map plain_envelope sent.now)) }

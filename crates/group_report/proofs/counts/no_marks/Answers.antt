@@ -8,7 +8,7 @@ pub loop-entry-preserved : goal.loop-entry-preserved
 loop-entry-preserved c = record {
   count =
       let more = ap (λ (ss : List GroupSent). length ss)
-          (sent_more c.args.entries.now c.loop-entry.entry-index c.entry-item.result c.loop-entry-test.true c.entry-item.is) in
+      (sent_more c.args.entries.now c.loop-entry.entry-index c.entry-item.result c.loop-entry-test.true c.entry-item.is) in
       let long = length-append (sent_in (take c.loop-entry.entry-index c.args.entries.now)) c.entry-item.result.messages in
       let messages = ap (λ (ss : List GroupSent). length ss) c.as_slice.ensures in
       omega (arith, c.in_ok-add_marks.ensures.count, c.loop-entry.invariant.count);

@@ -16,7 +16,7 @@ loop-entry-preserved c =
           ∙ ap (λ (ss : List GroupSent). map (λ (s : GroupSent). s.receiver) sent ++ map (λ (s : GroupSent). s.receiver) ss) c.as_slice.ensures
           ∙ sym (map-append (λ (s : GroupSent). s.receiver) sent c.entry-item.result.messages)
           ∙ ap (map (λ (s : GroupSent). s.receiver))
-            (sym (sent_more c.args.entries.now c.loop-entry.entry-index c.entry-item.result c.loop-entry-test.true c.entry-item.is));
+          (sym (sent_more c.args.entries.now c.loop-entry.entry-index c.entry-item.result c.loop-entry-test.true c.entry-item.is));
       text =
           lines_next c.args.names.now c.args.entries.now c.loop-entry.entry-index c.entry-item.result c.loop-entry.text c.entry_lines.new.text
           c.loop-entry-test.true c.entry-item.is (c.in_ok-entry_lines.ensures sent (c.deref.ensures.value ∙ c.loop-entry.invariant.receivers))

@@ -21,12 +21,12 @@ loop-envelope-preserved c =
 
 pub returns-then-is_none-clause-no : goal.returns-then-is_none-clause-no
 returns-then-is_none-clause-no c = λ _. record {
-    n = c.loop-envelope.envelope-index;
-    envelope = plain_envelope c.envelope-item.result;
-    there = get_map c.args.sent.now c.loop-envelope.envelope-index c.envelope-item.result c.loop-envelope-test.true c.envelope-item.is;
-    untaken = not_there (envelopes_at c.args.taken.now) (plain_envelope c.envelope-item.result) c.in_ok-place_of.field-0 c.in_ok-place_of.ensures
-        (c.is_none.ensures ∙ ap not c.if-is_none.true);
-  }
+  n = c.loop-envelope.envelope-index;
+  envelope = plain_envelope c.envelope-item.result;
+  there = get_map c.args.sent.now c.loop-envelope.envelope-index c.envelope-item.result c.loop-envelope-test.true c.envelope-item.is;
+  untaken = not_there (envelopes_at c.args.taken.now) (plain_envelope c.envelope-item.result) c.in_ok-place_of.field-0 c.in_ok-place_of.ensures
+      (c.is_none.ensures ∙ ap not c.if-is_none.true);
+}
 
 pub returns-clause-yes : goal.returns-clause-yes
 returns-clause-yes c = λ _. subst (λ (vs : List CodeEnvelope). All (Contains (envelopes_at c.args.taken.now)) (map plain_envelope vs))
