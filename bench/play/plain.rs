@@ -1,10 +1,10 @@
 //! The program in plain Rust, without contracts, made to be fast: reads a scenario from standard input, plays it, and prints its
 //! report. It takes only scenarios that are right. It keeps the whole record, as the proved program does. With the words `made
-//! NODES SEED` it prints the scenario that the proved program's `big` plays; with `large NODES SEED SIZE` and `points ROOM` it does
-//! what the modes of these names do.
+//! NODES SEED` it prints the scenario that the proved program's `big` plays; with `large NODES SEED SIZE`, `points ROOM` and `groups`
+//! it does what the modes of these names do.
 #![allow(dead_code)]
 
-use std::collections::{BTreeMap, HashMap};
+use std::collections::{BTreeMap, HashMap, HashSet};
 use std::io::{Read, Write};
 use std::rc::Rc;
 
@@ -20,6 +20,7 @@ include!("report.rs");
 include!("made.rs");
 include!("large.rs");
 include!("points.rs");
+include!("groups.rs");
 
 fn play_input() {
     let mut input = String::new();
@@ -44,6 +45,23 @@ fn play_input_with_points(room: usize) {
     std::mem::forget(world);
 }
 
+fn play_groups() {
+    let mut input = String::new();
+    std::io::stdin().read_to_string(&mut input).unwrap();
+    let (one, two) = parts_of(&input);
+    let mut declared = Declared::of(one);
+    let mut world = World::new(std::mem::take(&mut declared.nodes));
+    let commands = play(&declared, &mut world, one);
+    let mut groups = Groups::default();
+    groups.play(&declared, &world, two);
+    let mut text = report(&world, &declared.named, commands);
+    let mut of_groups = Report::new(world.ids(), &declared.named);
+    groups.report(&mut of_groups);
+    text.append(&mut of_groups.text);
+    std::io::stdout().write_all(&text).unwrap();
+    std::mem::forget((world, groups));
+}
+
 fn main() {
     let words: Vec<String> = std::env::args().skip(1).collect();
     match &words[..] {
@@ -53,6 +71,7 @@ fn main() {
             std::io::stdout().write_all(&text).unwrap();
         }
         [word, room] if word == "points" => play_input_with_points(room.parse().unwrap()),
+        [word] if word == "groups" => play_groups(),
         _ => play_input(),
     }
 }

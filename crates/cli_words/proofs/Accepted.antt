@@ -2,6 +2,7 @@
 -- over the words adds values only by uses, and a use of no value, or of values that do not pass, is refused. So an argument that is
 -- given has such a value.
 use Rattle.std.proofs.Common.{◌≡◌, ◌∙◌, ◌&&◌, ◌||◌, ℕ, Bool, cond, true, false, zero, suc, refl, sym, ap, ap₂, subst, arith, List, [], ◌∷◌, ◌++◌, Option, Some}
+use Rattle.std.proofs.Common.{◌⊎◌, inl, inr, true≢false}
 use Rattle.std.proofs.Common.{None}
 use Rattle.std.proofs.lemmas.Bool.{eqb-true}
 use Rattle.std.proofs.lemmas.Slice.Eq.{bytes_eq-Decides}
@@ -26,7 +27,7 @@ use Rattle.clap.specs.Walk.{option_met, option_word, plain_word, reacted, readin
 use Rattle.clap.specs.Walk.{subcommand_or_other, takes_several, takes_values, to_positional, used, used_as, used_by_id, values_or_missing, walk, walk_from}
 use Rattle.clap.specs.Walk.{walked, walked_from, with_default, with_values, without, word_met}
 use Rattle.clap.specs.declared.builder.action.ArgAction.{ArgAction}
-use Rattle.clap.specs.declared.builder.action.ArgAction.TheVariants.{Set}
+use Rattle.clap.specs.declared.builder.action.ArgAction.TheVariants.{Set, SetTrue}
 use Rattle.clap.specs.declared.builder.value_parser.Reading.{Reading}
 use Rattle.clap.specs.declared.builder.value_parser.ValueParser.{ValueParser}
 use Rattle.clap.specs.declared.error.kind.ErrorKind.{ErrorKind}
@@ -68,9 +69,9 @@ module _ (id : Text) (q : ValueParser) where
   AllFit [] = Unit {0}
   AllFit (r ∷ rs) = Fit r × AllFit rs
 
-  -- a rule sets its values, and the argument's has the parser and wants a value
+  -- a rule sets its values, or is a flag's, and the argument's has the parser and wants a value
   pub record IsGood (a : Rule) : Type 0 where
-    pub sets : action_of a ≡ Set
+    pub sets : (action_of a ≡ Set) ⊎ (action_of a ≡ SetTrue)
     pub parser : bytes_eq a.id id ≡ true → parser_of_value a.parser ≡ q
     pub case_counts : bytes_eq a.id id ≡ true → a.ignore_case ≡ false
     pub wants_value : bytes_eq a.id id ≡ true → nat_lt 0 (unwrap_or_range a.range).start_inclusive ≡ true
@@ -145,11 +146,23 @@ module _ (id : Text) (q : ValueParser) where
       with_values_fit a.id (reading_by a) CommandLine vs (without a.id rows) (good_values a g vs some (both_empty _ _ e).1) (good_reading a g)
       (without_fit a.id rows h)
 
+  -- by an action that is known
+  used_by_action : (again : Bool) (a : Rule) (vs : List Text) (rows : List Row) (x : ArgAction) → action_of a ≡ x →
+      (action_fault x again a vs rows ≡ [] → AllFit (used_as x a.id (reading_by a) vs rows)) → action_fault (action_of a) again a vs rows ≡ [] →
+      AllFit (used_as (action_of a) a.id (reading_by a) vs rows)
+  used_by_action again a vs rows x is fits e =
+      subst (λ (y : ArgAction). AllFit (used_as y a.id (reading_by a) vs rows)) (sym is)
+      (fits (subst (λ (y : ArgAction). action_fault y again a vs rows ≡ []) is e))
+
   used_fit : (again : Bool) (a : Rule) → IsGood a → (vs : List Text) (rows : List Row) → use_fault again a vs rows ≡ [] → AllFit rows → AllFit (used a vs rows)
   used_fit again a g vs rows e h =
-      subst (λ (x : ArgAction). AllFit (used_as x a.id (reading_by a) (values_or_missing a vs) rows)) (sym g.sets)
-      (used_as_fit again a g (values_or_missing a vs) rows (used_value a g vs (both_empty _ _ e).0)
-      (subst (λ (x : ArgAction). action_fault x again a (values_or_missing a vs) rows ≡ []) g.sets (both_empty _ _ e).1) h)
+      let parts = both_empty _ _ e in
+      let all = values_or_missing a vs in
+      let some = used_value a g vs parts.0 in
+      elim g.sets [
+        | inl is ↦ used_by_action again a all rows Set is (λ f. used_as_fit again a g all rows some f h) parts.1
+        | inr is ↦ used_by_action again a all rows SetTrue is (λ f. used_as_fit again a g all rows some f h) parts.1
+      ]
 
   -- ---- one word
 
@@ -395,3 +408,19 @@ level_checked s names h words has_subcommand below e =
     let after_below = both_empty below _ after_walk.1 in
     let after_settling = both_empty (settle_fault s.rules s.args_override_self end) _ after_below.1 in
     (both_empty (defaults_fault (settled s.rules end).rows s.rules) _ after_settling.1).1
+
+-- ---- arguments that are good
+
+-- each argument sets its values, or is a flag, and the one that is looked for has its parser
+pub another : (id : Text) (q : ValueParser) (a : Rule) → (action_of a ≡ Set) ⊎ (action_of a ≡ SetTrue) → bytes_eq a.id id ≡ false → IsGood id q a
+another id q a sets other = record {
+  sets = sets;
+  parser = λ e. absurd (true≢false (sym e ∙ other));
+  case_counts = λ e. absurd (true≢false (sym e ∙ other));
+  wants_value = λ e. absurd (true≢false (sym e ∙ other));
+}
+
+pub its_own : (id : Text) (q : ValueParser) (a : Rule) → action_of a ≡ Set → parser_of_value a.parser ≡ q → a.ignore_case ≡ false →
+    nat_lt 0 (unwrap_or_range a.range).start_inclusive ≡ true → IsGood id q a
+its_own id q a sets parser case_counts wants =
+    record { sets = inl sets; parser = λ e. parser; case_counts = λ e. case_counts; wants_value = λ e. wants }

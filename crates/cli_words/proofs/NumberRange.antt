@@ -23,14 +23,15 @@ use Rattle.clap.proofs.CallerReads.{signed_reads}
 use Rattle.clap.proofs.OnLiterals.{clap_on_literals}
 use Rattle.clap.proofs.ValueTestLemmas.{accepts-Accepts}
 use Rattle.cli_words.specs.declared.limits.TheConstants.{DEFAULT_NODES, DEFAULT_ROOM, DEFAULT_SIZE, FEWEST_MADE_NODES, LEAST_ROOM, MOST_MADE_NODES}
-use Rattle.cli_words.specs.declared.limits.TheConstants.{MOST_ROOM, MOST_SIZE}
+use Rattle.cli_words.specs.declared.limits.TheConstants.{MOST_ROOM, MOST_SIZE, DEFAULT_DRAWN, MOST_DRAWN}
 use Rattle.cli_words.specs.declared.mode.Mode.{Mode}
-use Rattle.cli_words.specs.declared.mode.Mode.TheVariants.{Play, Run, Big, Trace, Check, Points, Large, Messages}
+use Rattle.cli_words.specs.declared.mode.Mode.TheVariants.{Play, Run, Big, Trace, TraceRun, Check, Points, Large, Messages, Groups, Draw, OneNode}
 use Rattle.cli_words.specs.declared.mode.WordFault.{WordFault}
 use Rattle.cli_words.specs.declared.mode.WordFault.TheVariants.{OutOfMemory}
-use Rattle.cli_words.specs.declared.modes.Numbers.{Numbers}
-use Rattle.cli_words.specs.Command.{AreModes, AreNodesInRange, HasNumbersInRange, Reads, command_of, mode_named, mode_of, number_in, number_of, numbers_of}
-use Rattle.cli_words.proofs.Accepted.{AllGood, AllFit, EachPasses, IsGood, level_fit}
+use Rattle.cli_words.specs.declared.modes.Options.{Options}
+use Rattle.cli_words.specs.Command.{AreModes, AreNodesInRange, HasNumbersInRange, Reads, command_of, mode_named, mode_of, number_in}
+use Rattle.cli_words.specs.Command.{number_of, options_of, trace_mode}
+use Rattle.cli_words.proofs.Accepted.{AllGood, AllFit, EachPasses, another, its_own, level_fit}
 use Rattle.cli_words.proofs.Steps.{top}
 
 -- ---- an option whose parser takes the numbers from one to another, one of which stands where it is not given
@@ -81,47 +82,108 @@ module _ (id : Text) (low high otherwise : ℕ) (least : low ≤ otherwise) (mos
 
 -- ---- the numbers of a reading
 
--- each argument sets its value, and that of an option has the option's parser
-another : (id : Text) (q : ValueParser) (a : Rule) → action_of a ≡ Set → bytes_eq a.id id ≡ false → IsGood id q a
-another id q a sets other = record {
-  sets = sets;
-  parser = λ e. absurd (true≢false (sym e ∙ other));
-  case_counts = λ e. absurd (true≢false (sym e ∙ other));
-  wants_value = λ e. absurd (true≢false (sym e ∙ other));
-}
-
-its_own : (id : Text) (q : ValueParser) (a : Rule) → action_of a ≡ Set → parser_of_value a.parser ≡ q → a.ignore_case ≡ false →
-    nat_lt 0 (unwrap_or_range a.range).start_inclusive ≡ true → IsGood id q a
-its_own id q a sets parser case_counts wants = record { sets = sets; parser = λ e. parser; case_counts = λ e. case_counts; wants_value = λ e. wants }
-
 nodes_good : (names : Bor (List (Bor Text))) → AllGood (codes "nodes") (vp.Signed (pos FEWEST_MADE_NODES) (pos MOST_MADE_NODES)) (top names).rules
 unfolding clap_on_literals
-nodes_good names =
-    (another _ _ _ refl refl, (its_own _ _ _ refl refl refl refl, (another _ _ _ refl refl, (another _ _ _ refl refl, (another _ _ _ refl refl, tt)))))
+nodes_good names = (
+  another _ _ _ (inl refl) refl,
+  (
+    its_own _ _ _ refl refl refl refl,
+    (
+      another _ _ _ (inl refl) refl,
+      (
+        another _ _ _ (inl refl) refl,
+        (
+          another _ _ _ (inl refl) refl,
+          (
+            another _ _ _ (inl refl) refl,
+            (another _ _ _ (inl refl) refl, (another _ _ _ (inr refl) refl, tt)),
+          ),
+        ),
+      ),
+    ),
+  ),
+)
 
 room_good : (names : Bor (List (Bor Text))) → AllGood (codes "room") (vp.Signed (pos LEAST_ROOM) (pos MOST_ROOM)) (top names).rules
 unfolding clap_on_literals
-room_good names =
-    (another _ _ _ refl refl, (another _ _ _ refl refl, (another _ _ _ refl refl, (its_own _ _ _ refl refl refl refl, (another _ _ _ refl refl, tt)))))
+room_good names = (
+  another _ _ _ (inl refl) refl,
+  (
+    another _ _ _ (inl refl) refl,
+    (
+      another _ _ _ (inl refl) refl,
+      (
+        its_own _ _ _ refl refl refl refl,
+        (
+          another _ _ _ (inl refl) refl,
+          (
+            another _ _ _ (inl refl) refl,
+            (another _ _ _ (inl refl) refl, (another _ _ _ (inr refl) refl, tt)),
+          ),
+        ),
+      ),
+    ),
+  ),
+)
 
 size_good : (names : Bor (List (Bor Text))) → AllGood (codes "size") (vp.Signed (pos 0) (pos MOST_SIZE)) (top names).rules
 unfolding clap_on_literals
-size_good names =
-    (another _ _ _ refl refl, (another _ _ _ refl refl, (another _ _ _ refl refl, (another _ _ _ refl refl, (its_own _ _ _ refl refl refl refl, tt)))))
+size_good names = (
+  another _ _ _ (inl refl) refl,
+  (
+    another _ _ _ (inl refl) refl,
+    (
+      another _ _ _ (inl refl) refl,
+      (
+        another _ _ _ (inl refl) refl,
+        (
+          its_own _ _ _ refl refl refl refl,
+          (
+            another _ _ _ (inl refl) refl,
+            (another _ _ _ (inl refl) refl, (another _ _ _ (inr refl) refl, tt)),
+          ),
+        ),
+      ),
+    ),
+  ),
+)
+
+entries_good : (names : Bor (List (Bor Text))) → AllGood (codes "entries") (vp.Signed (pos 0) (pos MOST_DRAWN)) (top names).rules
+unfolding clap_on_literals
+entries_good names = (
+  another _ _ _ (inl refl) refl,
+  (
+    another _ _ _ (inl refl) refl,
+    (
+      another _ _ _ (inl refl) refl,
+      (
+        another _ _ _ (inl refl) refl,
+        (
+          another _ _ _ (inl refl) refl,
+          (
+            another _ _ _ (inl refl) refl,
+            (its_own _ _ _ refl refl refl refl, (another _ _ _ (inr refl) refl, tt)),
+          ),
+        ),
+      ),
+    ),
+  ),
+)
 
 matches_fit : (id : Text) (q : ValueParser) (names : Bor (List (Bor Text))) (words : List Text) → AllGood id q (top names).rules →
     fault_of (command_of names) words ≡ [] → AllFit id q (matches_of (command_of names) words)
 matches_fit id q names words good e =
     level_fit id q (top names) good (names_of (built (command_of names))) nothing_held (argument_words (command_of names) words) _ _ e tt
 
-pub record AreInRange (numbers : Numbers) : Type 0 where
-  pub nodes : AreNodesInRange numbers.nodes
-  pub room : (LEAST_ROOM ≤ numbers.room) × (numbers.room ≤ MOST_ROOM)
-  pub size : numbers.size ≤ MOST_SIZE
+pub record AreInRange (options : Options) : Type 0 where
+  pub nodes : AreNodesInRange options.nodes
+  pub room : (LEAST_ROOM ≤ options.room) × (options.room ≤ MOST_ROOM)
+  pub size : options.size ≤ MOST_SIZE
+  pub entries : options.entries ≤ MOST_DRAWN
 
-numbers_in_range : (names : Bor (List (Bor Text))) (words : List Text) → fault_of (command_of names) words ≡ [] →
-    AreInRange (numbers_of (matches_of (command_of names) words))
-numbers_in_range names words e =
+options_in_range : (names : Bor (List (Bor Text))) (words : List Text) → fault_of (command_of names) words ≡ [] →
+    AreInRange (options_of (matches_of (command_of names) words))
+options_in_range names words e =
     let rows = matches_of (command_of names) words in
     record {
       nodes = number_in_range (codes "nodes") FEWEST_MADE_NODES MOST_MADE_NODES DEFAULT_NODES (omega arith) (omega arith) (omega arith) rows
@@ -130,6 +192,8 @@ numbers_in_range names words e =
           (matches_fit (codes "room") _ names words (room_good names) e);
       size = (number_in_range (codes "size") 0 MOST_SIZE DEFAULT_SIZE (omega arith) (omega arith) (omega arith) rows
           (matches_fit (codes "size") _ names words (size_good names) e)).1;
+      entries = (number_in_range (codes "entries") 0 MOST_DRAWN DEFAULT_DRAWN (omega arith) (omega arith) (omega arith) rows
+          (matches_fit (codes "entries") _ names words (entries_good names) e)).1;
     }
 
 -- ---- the mode
@@ -140,23 +204,30 @@ either : (b : Bool) (mode : Mode) (rest : Option Mode) → HasNumbersInRange mod
 either true mode rest h k = h
 either false mode rest h k = k
 
-named_in_range : (name : Option Text) (numbers : Numbers) → AreInRange numbers → IfSome (option_and_then (mode_named numbers) name) HasNumbersInRange
-named_in_range None numbers h = tt
-named_in_range (Some t) numbers h =
+trace_in_range : (threads : Bool) → HasNumbersInRange (trace_mode threads)
+trace_in_range true = tt
+trace_in_range false = tt
+
+named_in_range : (name : Option Text) (options : Options) → AreInRange options → IfSome (option_and_then (mode_named options) name) HasNumbersInRange
+named_in_range None options h = tt
+named_in_range (Some t) options h =
     either (bytes_eq t (codes "play")) Play _ tt
     (either (bytes_eq t (codes "run")) Run _ tt
-    (either (bytes_eq t (codes "big")) (Big numbers.nodes numbers.seed) _ h.nodes
-    (either (bytes_eq t (codes "trace")) Trace _ tt
+    (either (bytes_eq t (codes "big")) (Big options.nodes options.seed) _ h.nodes
+    (either (bytes_eq t (codes "trace")) (trace_mode options.threads) _ (trace_in_range options.threads)
     (either (bytes_eq t (codes "check")) Check _ tt
-    (either (bytes_eq t (codes "points")) (Points numbers.room) _ h.room
-    (either (bytes_eq t (codes "large")) (Large numbers.nodes numbers.seed numbers.size) _ (h.nodes, h.size)
-    (either (bytes_eq t (codes "messages")) Messages None tt tt)))))))
+    (either (bytes_eq t (codes "points")) (Points options.room) _ h.room
+    (either (bytes_eq t (codes "large")) (Large options.nodes options.seed options.size) _ (h.nodes, h.size)
+    (either (bytes_eq t (codes "messages")) Messages _ tt
+    (either (bytes_eq t (codes "groups")) Groups _ tt
+    (either (bytes_eq t (codes "draw")) (Draw options.from options.entries) _ h.entries
+    (either (bytes_eq t (codes "node")) OneNode None tt tt))))))))))
 
 mode_in_range : (names : Bor (List (Bor Text))) (words : List Text) → fault_of (command_of names) words ≡ [] →
     IfSome (mode_of (matches_of (command_of names) words)) HasNumbersInRange
 mode_in_range names words e =
-    named_in_range (first_of (codes "mode") (matches_of (command_of names) words)) (numbers_of (matches_of (command_of names) words))
-    (numbers_in_range names words e)
+    named_in_range (first_of (codes "mode") (matches_of (command_of names) words)) (options_of (matches_of (command_of names) words))
+    (options_in_range names words e)
 
 -- a mode that is answered has numbers in their ranges
 pub read_in_range : (words : List Text) (result : Result Mode WordFault) →

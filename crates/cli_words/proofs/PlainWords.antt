@@ -11,7 +11,7 @@ use Rattle.clap.specs.Simple.{Shape, built, entered, matches_of}
 use Rattle.clap.specs.Faults.{fault_of, level_fault, entered_fault, settle_fault, defaults_fault, check_fault, walk_fault}
 use Rattle.clap.specs.Kinds.{Kinds, or_else}
 use Rattle.cli_words.specs.Command.{AreModes, command_of, mode_of}
-use Rattle.cli_words.specs.Plain.{Piece, Names, Apart, Joined, words_of, IsPiece, subject_of, mode_by, ArePlain}
+use Rattle.cli_words.specs.Plain.{Piece, Names, Apart, Joined, Threads, words_of, IsPiece, subject_of, mode_by, ArePlain}
 use Rattle.cli_words.proofs.Rows.{has_row-more}
 use Rattle.cli_words.proofs.Steps.{top, rules, stand, all_settled}
 use Rattle.cli_words.proofs.Walking.{row_of, EachPiece, Fresh, GoesOver, goes_over}
@@ -31,6 +31,7 @@ row_subject : (piece : Piece) → (row_of piece).id ≡ subject_of piece
 row_subject (Names m) = refl
 row_subject (Apart s n) = refl
 row_subject (Joined s n) = refl
+row_subject Threads = refl
 
 texts_differ : (s t : Text) → s ≢ t → bytes_eq s t ≡ false
 texts_differ s t h = by (bytes_eq s t) refl

@@ -19,9 +19,9 @@ use Rattle.clap.specs.declared.builder.value_parser.ValueParser.{ValueParser}
 use Rattle.clap.specs.declared.builder.value_parser.ValueParser.TheVariants as vp
 use Rattle.clap.specs.declared.parser.matches.ValueSource.TheVariants.{CommandLine}
 use Rattle.clap.proofs.OnLiterals.{clap_on_literals}
-use Rattle.cli_words.specs.declared.limits.TheConstants.{FEWEST_MADE_NODES, LEAST_ROOM, MOST_MADE_NODES, MOST_ROOM, MOST_SIZE}
+use Rattle.cli_words.specs.declared.limits.TheConstants.{FEWEST_MADE_NODES, LEAST_ROOM, MOST_DRAWN, MOST_MADE_NODES, MOST_ROOM, MOST_SIZE}
 use Rattle.cli_words.specs.Command.{AreModes, command_of, mode_names}
-use Rattle.cli_words.specs.Plain.{Setting, Nodes, Seed, Room, Size, setting_name, IsAmong}
+use Rattle.cli_words.specs.Plain.{Setting, Nodes, Seed, Room, Size, From, Entries, setting_name, IsAmong}
 use Rattle.cli_words.proofs.Rows.{value_row, used-absent}
 
 -- the command as it is built
@@ -45,6 +45,8 @@ parser_at names (Some Nodes) = vp.Signed (pos FEWEST_MADE_NODES) (pos MOST_MADE_
 parser_at names (Some Seed) = vp.Unsigned 0 18446744073709551615
 parser_at names (Some Room) = vp.Signed (pos LEAST_ROOM) (pos MOST_ROOM)
 parser_at names (Some Size) = vp.Signed (pos 0) (pos MOST_SIZE)
+parser_at names (Some From) = vp.Unsigned 0 18446744073709551615
+parser_at names (Some Entries) = vp.Signed (pos 0) (pos MOST_DRAWN)
 
 abbrev pub reading_at : Slot → Reading
 reading_at None = AsWritten
@@ -52,6 +54,8 @@ reading_at (Some Nodes) = WithoutMinus
 reading_at (Some Seed) = AsWritten
 reading_at (Some Room) = WithoutMinus
 reading_at (Some Size) = WithoutMinus
+reading_at (Some From) = AsWritten
+reading_at (Some Entries) = WithoutMinus
 
 abbrev pub row_at : Slot → Text → Row
 row_at k v = value_row (slot_name k) (reading_at k) CommandLine v
@@ -82,6 +86,8 @@ found names (Some Nodes) = refl
 found names (Some Seed) = refl
 found names (Some Room) = refl
 found names (Some Size) = refl
+found names (Some From) = refl
+found names (Some Entries) = refl
 
 pub uses : (names : Bor (List (Bor Text))) (k : Slot) (v : Text) (rows : List Row) → has_row (slot_name k) rows ≡ false →
     used (rule_at names k) (v ∷ []) rows ≡ rows ++ row_at k v ∷ []
@@ -91,6 +97,8 @@ uses names (Some Nodes) v rows h = used-absent (codes "nodes") WithoutMinus Comm
 uses names (Some Seed) v rows h = used-absent (codes "seed") AsWritten CommandLine v rows h
 uses names (Some Room) v rows h = used-absent (codes "room") WithoutMinus CommandLine v rows h
 uses names (Some Size) v rows h = used-absent (codes "size") WithoutMinus CommandLine v rows h
+uses names (Some From) v rows h = used-absent (codes "from") AsWritten CommandLine v rows h
+uses names (Some Entries) v rows h = used-absent (codes "entries") WithoutMinus CommandLine v rows h
 
 pub passes : (names : Bor (List (Bor Text))) (k : Slot) (v : Text) (rows : List Row) → has_row (slot_name k) rows ≡ false →
     accepts false (parser_at names k) v ≡ true → use_fault false (rule_at names k) (v ∷ []) rows ≡ []
@@ -100,6 +108,8 @@ passes names (Some Nodes) v rows h a = rw (h, a) refl
 passes names (Some Seed) v rows h a = rw (h, a) refl
 passes names (Some Room) v rows h a = rw (h, a) refl
 passes names (Some Size) v rows h a = rw (h, a) refl
+passes names (Some From) v rows h a = rw (h, a) refl
+passes names (Some Entries) v rows h a = rw (h, a) refl
 
 -- ---- an option and its number in one word
 
@@ -114,6 +124,8 @@ joined_walked names Nodes v held pending p = refl
 joined_walked names Seed v held pending p = refl
 joined_walked names Room v held pending p = refl
 joined_walked names Size v held pending p = refl
+joined_walked names From v held pending p = refl
+joined_walked names Entries v held pending p = refl
 
 joined_fault : (names : Bor (List (Bor Text))) (s : Setting) (v : Text) (held : List Row) (pending : Option (Text × List Text)) (p : ℕ) →
     turn_fault (top names) [] (stand held pending idle p) (joined_word s v) ≡
@@ -124,6 +136,8 @@ joined_fault names Nodes v held pending p = refl
 joined_fault names Seed v held pending p = refl
 joined_fault names Room v held pending p = refl
 joined_fault names Size v held pending p = refl
+joined_fault names From v held pending p = refl
+joined_fault names Entries v held pending p = refl
 
 pub joined_step : (names : Bor (List (Bor Text))) (s : Setting) (v : Text) (held : List Row) (pending : Option (Text × List Text)) (p : ℕ) (rows : List Row) →
     IsSettled names held pending rows → has_row (setting_name s) rows ≡ false →
@@ -140,6 +154,50 @@ joined_turn names s v held pending p rows at new fits =
     or_else_both _ [] (or_else_both _ _ at.fine
     (ap (λ (rs : List Row). use_fault false (rule_at names (Some s)) (v ∷ []) rs) at.rows_are ∙ passes names (Some s) v rows new fits)) refl
 
+-- ---- the flag
+
+abbrev pub flag_rule : Bor (List (Bor Text)) → Rule
+flag_rule names = unwrap_or (arg_by_id (rules names) (codes "threads")) (new_rule [])
+
+abbrev pub flag_row : Row
+flag_row = value_row (codes "threads") AsWritten CommandLine (codes "true")
+
+flag_uses : (names : Bor (List (Bor Text))) (rows : List Row) → has_row (codes "threads") rows ≡ false → used (flag_rule names) [] rows ≡ rows ++ flag_row ∷ []
+unfolding clap_on_literals
+flag_uses names rows h = used-absent (codes "threads") AsWritten CommandLine (codes "true") rows h
+
+flag_passes : (names : Bor (List (Bor Text))) (rows : List Row) → has_row (codes "threads") rows ≡ false → use_fault false (flag_rule names) [] rows ≡ []
+unfolding clap_on_literals
+flag_passes names rows h = rw h refl
+
+flag_walked : (names : Bor (List (Bor Text))) (held : List Row) (pending : Option (Text × List Text)) (p : ℕ) →
+    walked (rules names) [] (stand held pending idle p) (codes "--threads") ≡
+    stand (used (flag_rule names) [] (settled_rows (rules names) pending held)) None idle p
+unfolding clap_on_literals
+flag_walked names held pending p = refl
+
+flag_fault : (names : Bor (List (Bor Text))) (held : List Row) (pending : Option (Text × List Text)) (p : ℕ) →
+    turn_fault (top names) [] (stand held pending idle p) (codes "--threads") ≡
+    or_else (or_else (settle_fault (rules names) false (record { rows = held; pending = pending; skip = 0 }))
+    (use_fault false (flag_rule names) [] (settled_rows (rules names) pending held))) []
+unfolding clap_on_literals
+flag_fault names held pending p = refl
+
+pub flag_step : (names : Bor (List (Bor Text))) (held : List Row) (pending : Option (Text × List Text)) (p : ℕ) (rows : List Row) →
+    IsSettled names held pending rows → has_row (codes "threads") rows ≡ false →
+    walked (rules names) [] (stand held pending idle p) (codes "--threads") ≡ stand (rows ++ flag_row ∷ []) None idle p
+flag_step names held pending p rows at new =
+    flag_walked names held pending p ∙ ap (λ (rs : List Row). stand (used (flag_rule names) [] rs) None idle p) at.rows_are ∙
+    ap (λ (rs : List Row). stand rs None idle p) (flag_uses names rows new)
+
+pub flag_turn : (names : Bor (List (Bor Text))) (held : List Row) (pending : Option (Text × List Text)) (p : ℕ) (rows : List Row) →
+    IsSettled names held pending rows → has_row (codes "threads") rows ≡ false →
+    turn_fault (top names) [] (stand held pending idle p) (codes "--threads") ≡ []
+flag_turn names held pending p rows at new =
+    flag_fault names held pending p ∙
+    or_else_both _ [] (or_else_both _ _ at.fine
+    (ap (λ (rs : List Row). use_fault false (flag_rule names) [] rs) at.rows_are ∙ flag_passes names rows new)) refl
+
 -- ---- an option and its number apart
 
 abbrev pub option_word : Setting → Text
@@ -153,6 +211,8 @@ option_walked names Nodes held pending p = refl
 option_walked names Seed held pending p = refl
 option_walked names Room held pending p = refl
 option_walked names Size held pending p = refl
+option_walked names From held pending p = refl
+option_walked names Entries held pending p = refl
 
 option_fault : (names : Bor (List (Bor Text))) (s : Setting) (held : List Row) (pending : Option (Text × List Text)) (p : ℕ) →
     turn_fault (top names) [] (stand held pending idle p) (option_word s) ≡ or_else
@@ -162,6 +222,8 @@ option_fault names Nodes held pending p = refl
 option_fault names Seed held pending p = refl
 option_fault names Room held pending p = refl
 option_fault names Size held pending p = refl
+option_fault names From held pending p = refl
+option_fault names Entries held pending p = refl
 
 pub option_turn : (names : Bor (List (Bor Text))) (s : Setting) (held : List Row) (pending : Option (Text × List Text)) (p : ℕ) (rows : List Row) →
     IsSettled names held pending rows → turn_fault (top names) [] (stand held pending idle p) (option_word s) ≡ []
@@ -180,6 +242,8 @@ value_walked names Nodes v rows p h = let a = h.long in let b = h.short in let d
 value_walked names Seed v rows p h = let a = h.long in let b = h.short in let d = h.dashes in rw (d, a, b) refl
 value_walked names Room v rows p h = let a = h.long in let b = h.short in let d = h.dashes in rw (d, a, b) refl
 value_walked names Size v rows p h = let a = h.long in let b = h.short in let d = h.dashes in rw (d, a, b) refl
+value_walked names From v rows p h = let a = h.long in let b = h.short in let d = h.dashes in rw (d, a, b) refl
+value_walked names Entries v rows p h = let a = h.long in let b = h.short in let d = h.dashes in rw (d, a, b) refl
 
 pub value_turn : (names : Bor (List (Bor Text))) (s : Setting) (v : Text) (rows : List Row) (p : ℕ) → IsPlainValue v →
     turn_fault (top names) [] (stand rows (Some (setting_name s, [])) (option (setting_name s)) p) v ≡ []
@@ -188,6 +252,8 @@ value_turn names Nodes v rows p h = let a = h.long in let b = h.short in let d =
 value_turn names Seed v rows p h = let a = h.long in let b = h.short in let d = h.dashes in rw (d, a, b) refl
 value_turn names Room v rows p h = let a = h.long in let b = h.short in let d = h.dashes in rw (d, a, b) refl
 value_turn names Size v rows p h = let a = h.long in let b = h.short in let d = h.dashes in rw (d, a, b) refl
+value_turn names From v rows p h = let a = h.long in let b = h.short in let d = h.dashes in rw (d, a, b) refl
+value_turn names Entries v rows p h = let a = h.long in let b = h.short in let d = h.dashes in rw (d, a, b) refl
 
 -- an argument that is pending with its value is settled by one more row
 settled_use : (names : Bor (List (Bor Text))) (k : Slot) (v : Text) (rows : List Row) →
@@ -198,6 +264,8 @@ settled_use names (Some Nodes) v rows = refl
 settled_use names (Some Seed) v rows = refl
 settled_use names (Some Room) v rows = refl
 settled_use names (Some Size) v rows = refl
+settled_use names (Some From) v rows = refl
+settled_use names (Some Entries) v rows = refl
 
 settled_use_fault : (names : Bor (List (Bor Text))) (k : Slot) (v : Text) (rows : List Row) →
     settle_fault (rules names) false (record { rows = rows; pending = Some (slot_name k, v ∷ []); skip = 0 }) ≡ use_fault false (rule_at names k) (v ∷ []) rows
@@ -207,6 +275,8 @@ settled_use_fault names (Some Nodes) v rows = refl
 settled_use_fault names (Some Seed) v rows = refl
 settled_use_fault names (Some Room) v rows = refl
 settled_use_fault names (Some Size) v rows = refl
+settled_use_fault names (Some From) v rows = refl
+settled_use_fault names (Some Entries) v rows = refl
 
 pub pending_settled : (names : Bor (List (Bor Text))) (k : Slot) (v : Text) (rows : List Row) → has_row (slot_name k) rows ≡ false →
     accepts false (parser_at names k) v ≡ true → IsSettled names rows (Some (slot_name k, v ∷ [])) (rows ++ row_at k v ∷ [])
@@ -247,7 +317,8 @@ names_are_plain : EachIsPlain mode_names
 unfolding clap_on_literals
 names_are_plain =
     and (plain _ refl refl refl) (and (plain _ refl refl refl) (and (plain _ refl refl refl) (and (plain _ refl refl refl)
-    (and (plain _ refl refl refl) (and (plain _ refl refl refl) (and (plain _ refl refl refl) (and (plain _ refl refl refl) tt)))))))
+    (and (plain _ refl refl refl) (and (plain _ refl refl refl) (and (plain _ refl refl refl) (and (plain _ refl refl refl)
+    (and (plain _ refl refl refl) (and (plain _ refl refl refl) (and (plain _ refl refl refl) tt))))))))))
 
 one_is_plain : (ts : List Text) (m : Text) → EachIsPlain ts → IsAmong m ts → IsPlainValue m
 one_is_plain [] m each is = absurd is

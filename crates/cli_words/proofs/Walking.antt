@@ -9,28 +9,23 @@ use Rattle.clap.specs.Walk.{Text, Row, Walk, idle, option, walked, has_row}
 use Rattle.clap.specs.Simple.{Shape}
 use Rattle.clap.specs.Faults.{turn_fault, walk_fault}
 use Rattle.clap.specs.ValueTests.{accepts}
-use Rattle.cli_words.specs.declared.limits.TheConstants.{FEWEST_MADE_NODES, LEAST_ROOM, MOST_MADE_NODES, MOST_ROOM, MOST_SIZE}
+use Rattle.cli_words.specs.declared.limits.TheConstants.{FEWEST_MADE_NODES, LEAST_ROOM, MOST_DRAWN, MOST_MADE_NODES, MOST_ROOM, MOST_SIZE}
 use Rattle.cli_words.specs.Command.{AreModes}
-use Rattle.cli_words.specs.Plain.{Setting, Nodes, Seed, Room, Size, setting_name, InRange, Piece, Names, Apart, Joined, words_of, IsPiece, subject_of}
+use Rattle.cli_words.specs.Plain.{Setting, Nodes, Seed, Room, Size, From, Entries, setting_name, InRange, Piece, Names, Apart, Joined, Threads, words_of}
+use Rattle.cli_words.specs.Plain.{IsPiece, subject_of}
 use Rattle.cli_words.proofs.Rows.{neither, has_row-more}
-use Rattle.cli_words.proofs.Steps.{or_true, top, rules, Slot, parser_at, row_at, stand, IsSettled, joined_step, joined_turn, option_walked, option_turn}
+use Rattle.cli_words.proofs.Steps.{or_true, flag_row, flag_step, flag_turn, top, rules, parser_at, row_at, stand, IsSettled, joined_step, joined_turn}
+use Rattle.cli_words.proofs.Steps.{option_walked, option_turn}
 use Rattle.cli_words.proofs.Steps.{value_walked}
 use Rattle.cli_words.proofs.Steps.{value_turn, pending_settled, all_settled, mode_step, mode_turn, mode_accepted}
 use Rattle.cli_words.proofs.Numerals.{decimal_is_plain, decimal_signed, decimal_unsigned}
 
-abbrev pub slot_of : Piece → Slot
-slot_of (Names mode) = None
-slot_of (Apart setting number) = Some setting
-slot_of (Joined setting number) = Some setting
-
-abbrev pub value_of : Piece → Text
-value_of (Names mode) = mode
-value_of (Apart setting number) = decimal number
-value_of (Joined setting number) = decimal number
-
 -- the row that a piece leaves
 abbrev pub row_of : Piece → Row
-row_of piece = row_at (slot_of piece) (value_of piece)
+row_of (Names mode) = row_at None mode
+row_of (Apart setting number) = row_at (Some setting) (decimal number)
+row_of (Joined setting number) = row_at (Some setting) (decimal number)
+row_of Threads = flag_row
 
 abbrev pub EachPiece : List Piece → Type 0
 EachPiece [] = Unit {0}
@@ -48,6 +43,8 @@ number_accepted names Nodes n h = let low = h.0 in let high = h.1 in (omega arit
 number_accepted names Seed n h = (h, decimal_unsigned n h)
 number_accepted names Room n h = let low = h.0 in let high = h.1 in (omega arith, decimal_signed n LEAST_ROOM MOST_ROOM low high (omega arith))
 number_accepted names Size n h = (omega arith, decimal_signed n 0 MOST_SIZE (omega arith) h (omega arith))
+number_accepted names From n h = (h, decimal_unsigned n h)
+number_accepted names Entries n h = (omega arith, decimal_signed n 0 MOST_DRAWN (omega arith) h (omega arith))
 
 -- words that a walk goes over without a fault, to rows that are settled
 pub record GoesOver (names : Bor (List (Bor Text))) (from : Walk) (words : List Text) (rows : List Row) : Type 0 where
@@ -86,11 +83,13 @@ option_is_no_mode Nodes = refl
 option_is_no_mode Seed = refl
 option_is_no_mode Room = refl
 option_is_no_mode Size = refl
+option_is_no_mode From = refl
+option_is_no_mode Entries = refl
 
-still_first : (s : Setting) (v : Text) (rows : List Row) (p : ℕ) → (has_row (codes "mode") rows ≡ false → p ≡ 1) →
-    has_row (codes "mode") (rows ++ row_at (Some s) v ∷ []) ≡ false → p ≡ 1
-still_first s v rows p h e =
-    h (neither (has_row (codes "mode") rows) (bytes_eq (setting_name s) (codes "mode")) (sym (has_row-more (codes "mode") rows (row_at (Some s) v)) ∙ e)).0
+still_first : (r : Row) (rows : List Row) (p : ℕ) → (has_row (codes "mode") rows ≡ false → p ≡ 1) →
+    has_row (codes "mode") (rows ++ r ∷ []) ≡ false → p ≡ 1
+still_first r rows p h e =
+    h (neither (has_row (codes "mode") rows) (bytes_eq r.id (codes "mode")) (sym (has_row-more (codes "mode") rows r) ∙ e)).0
 
 mode_is_there : (m : Text) (rows : List Row) → has_row (codes "mode") (rows ++ row_at None m ∷ []) ≡ false → ⊥
 mode_is_there m rows e =
@@ -124,7 +123,7 @@ module _ (names : Bor (List (Bor Text))) (modes : AreModes names) where
   goes_over (Joined s n ∷ pieces) held pending p rows at first each fresh =
       let fits = number_accepted names s n each.0 in
       let next = rows ++ row_at (Some s) (decimal n) ∷ [] in
-      let rest = goes_over pieces next None p next (all_settled names next) (still_first s (decimal n) rows p first) each.1 fresh.1 in
+      let rest = goes_over pieces next None p next (all_settled names next) (still_first (row_at (Some s) (decimal n)) rows p first) each.1 fresh.1 in
       further names (stand held pending idle p) (stand next None idle p) _ (flat_map words_of pieces) (rows ++ row_at (Some s) (decimal n) ∷ map row_of pieces)
       (joined_step names s (decimal n) held pending p rows at fresh.0) (joined_turn names s (decimal n) held pending p rows at fresh.0 fits.1)
       (subst (λ (rs : List Row). GoesOver names (stand next None idle p) (flat_map words_of pieces) rs)
@@ -133,7 +132,7 @@ module _ (names : Bor (List (Bor Text))) (modes : AreModes names) where
       let fits = number_accepted names s n each.0 in
       let next = rows ++ row_at (Some s) (decimal n) ∷ [] in
       let rest = goes_over pieces rows (Some (setting_name s, decimal n ∷ [])) p next
-      (pending_settled names (Some s) (decimal n) rows fresh.0 fits.1) (still_first s (decimal n) rows p first) each.1 fresh.1 in
+      (pending_settled names (Some s) (decimal n) rows fresh.0 fits.1) (still_first (row_at (Some s) (decimal n)) rows p first) each.1 fresh.1 in
       let all : List Row = rows ++ row_at (Some s) (decimal n) ∷ map row_of pieces in
       further names (stand held pending idle p) (stand rows (Some (setting_name s, [])) (option (setting_name s)) p) _
       (decimal n ∷ flat_map words_of pieces) all
@@ -144,3 +143,10 @@ module _ (names : Bor (List (Bor Text))) (modes : AreModes names) where
       (value_walked names s (decimal n) rows p (decimal_is_plain n fits.0)) (value_turn names s (decimal n) rows p (decimal_is_plain n fits.0))
       (subst (λ (rs : List Row). GoesOver names (stand rows (Some (setting_name s, decimal n ∷ [])) idle p) (flat_map words_of pieces) rs)
       (append_assoc rows (row_at (Some s) (decimal n) ∷ []) (map row_of pieces)) rest))
+  goes_over (Threads ∷ pieces) held pending p rows at first each fresh =
+      let next = rows ++ flag_row ∷ [] in
+      let rest = goes_over pieces next None p next (all_settled names next) (still_first flag_row rows p first) each.1 fresh.1 in
+      further names (stand held pending idle p) (stand next None idle p) _ (flat_map words_of pieces) (rows ++ flag_row ∷ map row_of pieces)
+      (flag_step names held pending p rows at fresh.0) (flag_turn names held pending p rows at fresh.0)
+      (subst (λ (rs : List Row). GoesOver names (stand next None idle p) (flat_map words_of pieces) rs)
+      (append_assoc rows (flag_row ∷ []) (map row_of pieces)) rest)

@@ -38,3 +38,18 @@ pub const DEFAULT_SIZE: u32 = 10_000;
 
 /// [`DEFAULT_SIZE`] as a text.
 pub(crate) const DEFAULT_SIZE_TEXT: &str = "10000";
+
+/// The first entry that is drawn where none is given, counted from 0.
+pub const DEFAULT_FROM: u64 = 0;
+
+/// [`DEFAULT_FROM`] as a text.
+pub(crate) const DEFAULT_FROM_TEXT: &str = "0";
+
+/// The most entries of a picture.
+pub const MOST_DRAWN: u32 = 10_000;
+
+/// The entries of a picture where no number is given.
+pub const DEFAULT_DRAWN: u32 = 120;
+
+/// [`DEFAULT_DRAWN`] as a text.
+pub(crate) const DEFAULT_DRAWN_TEXT: &str = "120";

@@ -13,6 +13,8 @@ pub enum Mode {
     Big { nodes: u32, seed: u64 },
     /// Plays a scenario and writes its record as a trace.
     Trace,
+    /// Runs a scenario, each node as a thread, and writes the record of that run as a trace.
+    TraceRun,
     /// Reads a trace and writes whether its record is legal.
     Check,
     /// Plays a scenario with an access point at each node that remembers up to so many files, 1 to 4,096, and writes its report.
@@ -22,6 +24,13 @@ pub enum Mode {
     Large { nodes: u32, seed: u64, size: u32 },
     /// Reads a scenario and writes a line for each entry, message and note of its play, for people.
     Messages,
+    /// Reads a script of groups, plays both its parts, and writes the reports of both.
+    Groups,
+    /// Reads a trace and writes a picture of its ring and of so many of its entries, at most 10,000, from one on that is counted
+    /// from 0.
+    Draw { from: u64, entries: u32 },
+    /// Is one node, which reads a line for each thing that it is told, and writes what it does.
+    OneNode,
 }
 
 /// Why words were not read.

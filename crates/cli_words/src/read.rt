@@ -3,62 +3,61 @@
 ghost use Rattle.std.specs.Prelude.{◌≡◌, ◌≢◌, ◌⊎◌, Err, Some, IfOk, IsOkAnd, IsErrAnd, List, codes, option_map, map};
 ghost use Rattle.std.specs.Rc.{rc_str_bytes};
 ghost use Rattle.clap.specs.Words.{rows_of, found_of, first_of, kind_of};
-ghost use Rattle.cli_words.specs.Command.{Reads, Judges, AreModes, HasNumbersInRange, mode_of, number_of, numbers_of};
+ghost use Rattle.cli_words.specs.Command.{Reads, Judges, AreModes, HasNumbersInRange, mode_of, number_of, options_of, is_set};
 ghost use Rattle.cli_words.specs.Plain.{Piece, ArePlain, mode_by};
 
 use crate::command::command;
-use crate::limits::{DEFAULT_NODES, DEFAULT_ROOM, DEFAULT_SEED, DEFAULT_SIZE};
+use crate::limits::{
+    DEFAULT_DRAWN, DEFAULT_FROM, DEFAULT_NODES, DEFAULT_ROOM, DEFAULT_SEED, DEFAULT_SIZE,
+};
 use crate::mode::{Mode, WordFault};
-use crate::modes::{Numbers, mode_named};
+use crate::modes::{Options, mode_named};
 use clap::error::ErrorKind;
 use clap::{ArgMatches, Error};
 use std::alloc::{AllocError, Global};
 use std::rc::RcStr;
 
-fn nodes_in(matches: &ArgMatches<'_>) -> u32
-    ensures { result ≡ number_of (codes "nodes") 4294967295 DEFAULT_NODES (rows_of (found_of matches.now)) }
+/// The number of an option below 2^32, or another where it is not given.
+fn u32_in(matches: &ArgMatches<'_>, option: &str, otherwise: u32) -> u32
+    ensures { result ≡ number_of option.entry.now 4294967295 otherwise (rows_of (found_of matches.now)) }
 {
-    match matches.get_one::<u32>("nodes") {
-        Some(nodes) => nodes,
-        None => DEFAULT_NODES,
+    match matches.get_one::<u32>(option) {
+        Some(number) => number,
+        None => otherwise,
     }
 }
 
-fn seed_in(matches: &ArgMatches<'_>) -> u64
-    ensures { result ≡ number_of (codes "seed") 18446744073709551615 DEFAULT_SEED (rows_of (found_of matches.now)) }
+/// The number of an option below 2^64, or another where it is not given.
+fn u64_in(matches: &ArgMatches<'_>, option: &str, otherwise: u64) -> u64
+    ensures { result ≡ number_of option.entry.now 18446744073709551615 otherwise (rows_of (found_of matches.now)) }
 {
-    match matches.get_one::<u64>("seed") {
-        Some(seed) => seed,
-        None => DEFAULT_SEED,
+    match matches.get_one::<u64>(option) {
+        Some(number) => number,
+        None => otherwise,
     }
 }
 
-fn room_in(matches: &ArgMatches<'_>) -> u32
-    ensures { result ≡ number_of (codes "room") 4294967295 DEFAULT_ROOM (rows_of (found_of matches.now)) }
+/// Whether the flag is given.
+fn threads_in(matches: &ArgMatches<'_>) -> bool
+    ensures { result ≡ is_set (codes "threads") (rows_of (found_of matches.now)) }
 {
-    match matches.get_one::<u32>("room") {
-        Some(room) => room,
-        None => DEFAULT_ROOM,
+    match matches.get_str("threads") {
+        Some(text) => text == "true",
+        None => false,
     }
 }
 
-fn size_in(matches: &ArgMatches<'_>) -> u32
-    ensures { result ≡ number_of (codes "size") 4294967295 DEFAULT_SIZE (rows_of (found_of matches.now)) }
+fn options_in(matches: &ArgMatches<'_>) -> Options
+    ensures { result ≡ options_of (rows_of (found_of matches.now)) }
 {
-    match matches.get_one::<u32>("size") {
-        Some(size) => size,
-        None => DEFAULT_SIZE,
-    }
-}
-
-fn numbers_in(matches: &ArgMatches<'_>) -> Numbers
-    ensures { result ≡ numbers_of (rows_of (found_of matches.now)) }
-{
-    Numbers {
-        nodes: nodes_in(matches),
-        seed: seed_in(matches),
-        room: room_in(matches),
-        size: size_in(matches),
+    Options {
+        nodes: u32_in(matches, "nodes", DEFAULT_NODES),
+        seed: u64_in(matches, "seed", DEFAULT_SEED),
+        room: u32_in(matches, "room", DEFAULT_ROOM),
+        size: u32_in(matches, "size", DEFAULT_SIZE),
+        from: u64_in(matches, "from", DEFAULT_FROM),
+        entries: u32_in(matches, "entries", DEFAULT_DRAWN),
+        threads: threads_in(matches),
     }
 }
 
@@ -71,7 +70,7 @@ fn name_in<'a>(matches: &ArgMatches<'a>) -> Option<&'a str>
 fn mode_in(matches: &ArgMatches<'_>) -> Option<Mode>
     ensures { result ≡ mode_of (rows_of (found_of matches.now)) }
 {
-    mode_named(name_in(matches)?, numbers_in(matches))
+    mode_named(name_in(matches)?, options_in(matches))
 }
 
 fn fault_in(error: &Error) -> WordFault

@@ -1,4 +1,5 @@
-//! Words and what they ask for, by the usage `pastry MODE [--nodes N] [--seed N] [--room N] [--size Z]`.
+//! Words and what they ask for, by the usage `pastry MODE [--nodes N] [--seed N] [--room N] [--size Z] [--from ENTRY]
+//! [--entries COUNT] [--threads]`.
 
 use crate::{Mode, WordFault, check_words, read_words};
 use std::rc::RcStr;
@@ -20,6 +21,8 @@ fn reads_plain_words(rt: HostRuntime) -> Result<(), Fail> {
     assert_eq!(rt; read(&rt, &["pastry", "trace"])?, Ok(Mode::Trace));
     assert_eq!(rt; read(&rt, &["pastry", "check"])?, Ok(Mode::Check));
     assert_eq!(rt; read(&rt, &["pastry", "messages"])?, Ok(Mode::Messages));
+    assert_eq!(rt; read(&rt, &["pastry", "groups"])?, Ok(Mode::Groups));
+    assert_eq!(rt; read(&rt, &["pastry", "node"])?, Ok(Mode::OneNode));
     assert_eq!(rt;
         read(&rt, &["", "big"])?,
         Ok(Mode::Big { nodes: 12, seed: 7 })
@@ -74,12 +77,48 @@ fn reads_the_room_and_the_size(rt: HostRuntime) -> Result<(), Fail> {
 }
 
 #[test]
+fn reads_what_is_drawn(rt: HostRuntime) -> Result<(), Fail> {
+    assert_eq!(rt;
+        read(&rt, &["pastry", "draw"])?,
+        Ok(Mode::Draw {
+            from: 0,
+            entries: 120
+        })
+    );
+    assert_eq!(rt;
+        read(&rt, &["p", "--entries=10000", "draw", "--from", "9"])?,
+        Ok(Mode::Draw {
+            from: 9,
+            entries: 10_000
+        })
+    );
+    Ok(())
+}
+
+#[test]
+fn reads_the_flag(rt: HostRuntime) -> Result<(), Fail> {
+    assert_eq!(rt;
+        read(&rt, &["pastry", "trace", "--threads"])?,
+        Ok(Mode::TraceRun)
+    );
+    assert_eq!(rt;
+        read(&rt, &["p", "--threads", "trace", "--room", "2"])?,
+        Ok(Mode::TraceRun)
+    );
+    assert_eq!(rt; read(&rt, &["p", "play", "--threads"])?, Ok(Mode::Play));
+    Ok(())
+}
+
+#[test]
 fn refuses_other_words(rt: HostRuntime) -> Result<(), Fail> {
-    let refused: [&[&str]; 15] = [
+    let refused: [&[&str]; 18] = [
         &[],
         &["pastry"],
-        &["pastry", "draw"],
-        &["pastry", "groups"],
+        &["pastry", "paint"],
+        &["pastry", "trace", "--threads=true"],
+        &["pastry", "trace", "--threads", "--threads"],
+        &["pastry", "draw", "--entries", "10001"],
+        &["pastry", "draw", "--from=-1"],
         &["pastry", "Play"],
         &["pastry", "play", "play"],
         &["pastry", "big", "--nodes", "1"],
@@ -119,9 +158,9 @@ fn says_why_words_are_refused(rt: HostRuntime) -> Result<(), Fail> {
             .contains("'257' for '--nodes <nodes>': 257 is not in 2..=256"),
         "{text}"
     );
-    let words = ["pastry", "groups"];
+    let words = ["pastry", "paint"];
     let text = refusal(&rt, &words)?.unwrap_or(String::new(rt.alloc()));
-    assert!(rt; text.as_str().contains("'groups'"), "{text}");
+    assert!(rt; text.as_str().contains("'paint'"), "{text}");
     assert!(rt; refusal(&rt, &["pastry", "play"])?.is_none());
     Ok(())
 }

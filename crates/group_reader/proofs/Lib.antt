@@ -1,2 +1,3 @@
 mod Cutting
 mod Reading
+pub mod Sizes

@@ -1,5 +1,5 @@
 -- The checks of a line of part two. Each gives the fault of line n, or None.
-use Rattle.std.specs.Prelude.{ℕ, ◌+◌, nat_lt, not, List, length, Option, is_none}
+use Rattle.std.specs.Prelude.{ℕ, ◌+◌, nat_lt, not, length, Option, is_none}
 use Rattle.ring_math.specs.declared.limits.TheConstants.{MOST_BYTES}
 use Rattle.scenario_reader.specs.declared.fault.LineFault.{LineFault}
 use Rattle.scenario_reader.specs.declared.fault.LineFault.TheVariants as fault

@@ -6,10 +6,12 @@
 mod builder;
 mod cut;
 mod form;
+mod limits;
 mod line;
 mod read;
 mod script;
 
+pub use limits::MOST_SCRIPT_BYTES;
 pub use read::read_groups;
 pub use script::GroupScript;
 

@@ -1,10 +1,11 @@
 //! A whole script.
 
-ghost use Rattle.std.specs.Prelude.{◌≡◌, ◌⊎◌, ◌≤◌, ◌+◌, Err, IfErr, IfOk, Ok};
+ghost use Rattle.std.specs.Prelude.{◌≡◌, ◌⊎◌, ◌≤◌, ◌+◌, Err, IfErr, IfOk, Ok, length};
 ghost use Rattle.scenario_reader.specs.declared.fault.LineFault.TheVariants as fault;
 ghost use Rattle.scenario_reader.specs.declared.limits.TheConstants.{MOST_LINES};
 ghost use Rattle.scenario_reader.specs.Lines.{lines_of};
 ghost use Rattle.scenario_reader.specs.Rules.{KeepsRules};
+ghost use Rattle.group_reader.specs.declared.limits.TheConstants.{MOST_SCRIPT_BYTES};
 ghost use Rattle.group_reader.specs.Grammar.{groups_of, read_from};
 ghost use Rattle.group_reader.specs.Plain.{nothing_yet};
 
@@ -18,10 +19,13 @@ use std::alloc::Global;
 /// The script that the bytes are, or their fault.
 ///
 /// Lines are counted from 1 over all of the bytes. A fault of part one comes first, then `Word` on the line behind the last where
-/// no line is `groups`. Out of memory may come in the place of any answer.
+/// no line is `groups`. An input of more than [`MOST_SCRIPT_BYTES`](crate::MOST_SCRIPT_BYTES) is none. Out of memory may come in
+/// the place of any answer.
 pub fn read_groups(alloc: Global, bytes: &[u8]) -> Result<GroupScript, LineFault>
     // The bytes are this script.
     ensures read { IfOk result (λ script. groups_of bytes.now ≡ Ok script) }
+    // So they are no more than a script has.
+    ensures sized { IfOk result (λ script. length bytes.now ≤ MOST_SCRIPT_BYTES) }
     // They are none, and this is their fault.
     ensures refused { IfErr result (λ refusal. (refusal ≡ fault.OutOfMemory) ⊎ (groups_of bytes.now ≡ Err refusal)) }
 {

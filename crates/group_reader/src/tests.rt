@@ -1,6 +1,6 @@
 //! Scripts that are read, and each fault of a line of part two.
 
-use crate::read_groups;
+use crate::{MOST_SCRIPT_BYTES, read_groups};
 use scenario_reader::LineFault;
 use std::alloc::Global;
 use std::test::Fail;
@@ -137,7 +137,8 @@ fn limits_lines(rt: HostRuntime) -> Result<(), Fail> {
     Ok(())
 }
 
-/// A publication has at most 4,096 bytes, and a line at most 9,000.
+/// A publication has at most 4,096 bytes, a line at most 9,000, and a script two times 10,000 such lines with their ends, and the
+/// line between its parts.
 #[test]
 fn limits_bytes(rt: HostRuntime) -> Result<(), Fail> {
     let mut input = with_lines(rt.alloc(), b"groups\npublish A g ")?;
@@ -149,6 +150,7 @@ fn limits_bytes(rt: HostRuntime) -> Result<(), Fail> {
     add(&mut input, b"ab", 400)?;
     let fault = LineFault::TooLong { line: 4 };
     assert_eq!(rt; read_groups(rt.alloc(), &input).err(), Some(fault));
+    assert_eq!(rt; MOST_SCRIPT_BYTES, 180_020_007);
     Ok(())
 }
 

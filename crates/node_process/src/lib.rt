@@ -9,6 +9,7 @@ mod process;
 mod texts;
 
 pub use process::NodeProcess;
+pub use texts::{put_done, put_refused};
 
 #[cfg(test)]
 mod tests;

@@ -113,7 +113,8 @@ fn put_numbered(text: &mut Text, word: &[u8], origin: Id, number: u64) -> Result
     text.number_after(b" ", number)
 }
 
-fn put_done(text: &mut Text, stamp: u64) -> Result<(), OutOfMemory>
+/// Writes that a line was taken in, at this stamp.
+pub fn put_done(text: &mut Text, stamp: u64) -> Result<(), OutOfMemory>
     ensures { OnOk result (text.new ≡ text.old ++ done_line stamp) }
 {
     text.number_after(b"done ", stamp)?;
@@ -121,7 +122,7 @@ fn put_done(text: &mut Text, stamp: u64) -> Result<(), OutOfMemory>
 }
 
 /// Writes why a line is none.
-pub(crate) fn put_refused(text: &mut Text, refusal: Refusal) -> Result<(), OutOfMemory>
+pub fn put_refused(text: &mut Text, refusal: Refusal) -> Result<(), OutOfMemory>
     ensures { OnOk result (text.new ≡ text.old ++ refused_line refusal) }
 {
     text.put(b"refused ")?;

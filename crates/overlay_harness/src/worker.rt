@@ -18,7 +18,8 @@ use scenario_reader::{Action, What};
 use std::alloc::Global;
 use std::sync::Wait;
 use std::sync::atomic::{AtomicBool, AtomicUsize, Ordering};
-use std::thread::yield_now;
+use std::thread::{Parker, yield_now};
+use std::time::Duration;
 
 /// A node's cell in a run, with what its thread has to know and to tell.
 #[derive(Drop)]
@@ -39,7 +40,7 @@ pub(crate) struct Hall<'a, T> {
     pub(crate) turnstile: &'a T,
     /// Set once a thread was refused memory: then none takes another frame.
     pub(crate) refused: &'a AtomicBool,
-    /// How many threads of this round found their mailboxes empty.
+    /// How many threads of this round found their mailboxes empty, or take nothing more.
     pub(crate) idle: &'a AtomicUsize,
     /// How many threads there are.
     pub(crate) threads: usize,
@@ -47,7 +48,13 @@ pub(crate) struct Hall<'a, T> {
 
 /// How often a thread looks again before it takes its mailbox for empty, while other threads of the round still work. To start a
 /// round costs more than to look.
-const MOST_LOOKS: u32 = 50;
+const MOST_LOOKS: u32 = 1_000;
+
+/// So many looks follow each other at once. From then on the thread pauses, so that those with work have the processors.
+const QUICK_LOOKS: u32 = 10;
+
+/// How long a pause is, in microseconds.
+const PAUSE: u64 = 50;
 
 /// The work of a thread in the first round of a stage: it submits the commands to its node, and then serves.
 pub(crate) fn begin_stage<R: Wait, T: Turnstile>(
@@ -176,6 +183,8 @@ fn serve_left<R: Wait, T: Turnstile>(
         }
         post_all(rt, alloc, hall.post, &mut worker.cell, copies)?;
     }
+    // What its node may no longer take is nothing to wait for.
+    hall.idle.fetch_add(1, Ordering::SeqCst);
     Ok(())
 }
 
@@ -194,17 +203,26 @@ fn serve_patiently<R: Wait, T: Turnstile>(
         return Ok(true);
     }
     hall.idle.fetch_add(1, Ordering::SeqCst);
-    for _ in 0..MOST_LOOKS {
+    for look in 0..MOST_LOOKS {
         if hall.idle.load(Ordering::SeqCst) >= hall.threads {
             return Ok(false);
         }
-        yield_now();
+        let_others_work(rt, look);
         if serve_once(rt, alloc, hall.post, worker)? {
             hall.idle.fetch_sub(1, Ordering::SeqCst);
             return Ok(true);
         }
     }
     Ok(false)
+}
+
+/// What a thread does before it looks again, having looked so many times.
+fn let_others_work<R: Wait>(rt: &R, looks: u32) {
+    if looks < QUICK_LOOKS {
+        yield_now();
+    } else {
+        Parker::new().park_timeout(rt, Duration::from_micros(PAUSE));
+    }
 }
 
 /// Serves one frame, if one is left to the node and its mailbox has one.

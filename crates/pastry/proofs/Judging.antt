@@ -20,7 +20,6 @@ use Rattle.pastry.specs.declared.outcome.TopFault.TheVariants as fault
 use Rattle.pastry.specs.Faults.{IsCheckingFault}
 use Rattle.pastry.specs.Checked.{HasChecked, HasFoundWrong, HasJudged, IsFaultOf, IsNoTrace, IsReadTrace}
 use Rattle.pastry.specs.Judged.{IsJudged, handed_out}
-use Rattle.pastry.specs.VerdictTexts.{legal_text}
 use Rattle.pastry.specs.Due.{DoneOr, IsJudgedRightly, fault_of}
 
 -- a trace was read, and this is the verdict on it
@@ -29,20 +28,22 @@ pub record WasJudged (left left_after : Option (List ℕ)) (v : Verdict) : Type 
   pub read : IsReadTrace left left_after trace
   pub is : IsVerdict (setting_of trace.nodes trace.founder) trace.entries v
 
-pub judged_legal : (left left_after : Option (List ℕ)) (W : List ℕ → Type 0) (checked : Option Record) → HasChecked left left_after W checked →
+pub judged_legal : (told : PlainTrace → Verdict → List ℕ) (left left_after : Option (List ℕ)) (W : List ℕ → Type 0) (checked : Option Record) →
+    HasChecked told left left_after W checked →
     (ready : ℕ) × WasJudged left left_after (verdict.Legal ready)
-judged_legal left left_after W checked h =
+judged_legal told left left_after W checked h =
     let g = setting_of h.trace.nodes h.trace.founder in
     (ready_count g (world_after g h.trace.entries (length h.trace.entries)), record { trace = h.trace; read = h.read; is = (h.legal.legal, refl) })
 
-pub judged_wrong : (left left_after : Option (List ℕ)) (W : List ℕ → Type 0) (checked : Option Record) (entry : ℕ) (p : Part) →
-    HasFoundWrong left left_after W checked entry p → WasJudged left left_after (verdict.Wrong entry p)
-judged_wrong left left_after W checked entry p h = record { trace = h.trace; read = h.read; is = h.wrong }
+pub judged_wrong : (told : PlainTrace → Verdict → List ℕ) (left left_after : Option (List ℕ)) (W : List ℕ → Type 0) (checked : Option Record) (entry : ℕ)
+    (p : Part) → HasFoundWrong told left left_after W checked entry p → WasJudged left left_after (verdict.Wrong entry p)
+judged_wrong told left left_after W checked entry p h = record { trace = h.trace; read = h.read; is = h.wrong }
 
--- what was judged is told, and W says what became of the line
-pub has_judged : (left left_after : Option (List ℕ)) (W : List ℕ → Type 0) (checked : Option Record) (t : PlainTrace) (v : Verdict) (r : Record)
-    (text : List ℕ) → IsReadTrace left left_after t → IsJudged t v r text → checked ≡ handed_out v r → W text → HasJudged left left_after W checked
-has_judged left left_after W checked t (verdict.Legal ready) r text read j same w = inl (record {
+-- what was judged is told, and W says what became of the text
+pub has_judged : (told : PlainTrace → Verdict → List ℕ) (left left_after : Option (List ℕ)) (W : List ℕ → Type 0) (checked : Option Record) (t : PlainTrace)
+    (v : Verdict) (r : Record) (text : List ℕ) → IsReadTrace left left_after t → IsJudged told t v r text → checked ≡ handed_out v r → W text →
+    HasJudged told left left_after W checked
+has_judged told left left_after W checked t (verdict.Legal ready) r text read j same w = inl (record {
   trace = t;
   record_of = r;
   read = read;
@@ -51,9 +52,9 @@ has_judged left left_after W checked t (verdict.Legal ready) r text read j same 
   legal = j.headed.0;
   headline = j.headed.1;
   same = same;
-  written = subst W (j.is_text ∙ ap (legal_text (length t.entries)) j.is_verdict.1) w;
+  written = subst W (j.is_text ∙ ap (λ (n : ℕ). told t (verdict.Legal n)) j.is_verdict.1) w;
 })
-has_judged left left_after W checked t (verdict.Wrong entry p) r text read j same w =
+has_judged told left left_after W checked t (verdict.Wrong entry p) r text read j same w =
     inr (entry, (p, record { trace = t; read = read; wrong = j.is_verdict; none = same; written = subst W j.is_text w }))
 
 -- what the clauses of a run that checks a trace say of its fault

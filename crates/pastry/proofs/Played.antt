@@ -18,8 +18,8 @@ use Rattle.pastry.specs.Runs.{HasPlayedLarge, HasPlayedMade}
 use Rattle.pastry.specs.declared.output.Output.TheVariants as output
 
 -- what was prepared was told, and what became of its text became of the scenario's
-pub HasTold-from_prepared : (W : List ℕ → Type 0) (told : Option Record) (R : PlainScenario → Type 0) (P : PlainScenario → Record → Type 0)
-    (text_of : PlainScenario → Record → List ℕ) (s : PlainScenario) (r : Record) (text : List ℕ) →
+pub HasTold-from_prepared : {A : Type 0} (W : List ℕ → Type 0) (told : Option Record) (R : A → Type 0) (P : A → Record → Type 0)
+    (text_of : A → Record → List ℕ) (s : A) (r : Record) (text : List ℕ) →
     Prepares P text_of s r text → R s → told ≡ Some r → W text → HasTold R P text_of W told
 HasTold-from_prepared W told R P text_of s r text prepared from same written = record {
   scenario = s;

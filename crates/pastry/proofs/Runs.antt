@@ -1,5 +1,5 @@
 -- How a run by threads can end: by its causes, what a source has is run, or its first line that a run can't have is named.
-use Rattle.std.proofs.Common.{◌≡◌, ℕ, List, take, Option, Some, None, IfSome, Ok, Err, refl, subst, sym, ap, ◌∙◌, inl, inr}
+use Rattle.std.proofs.Common.{◌≡◌, ℕ, List, take, Option, Some, None, IfSome, Result, Ok, Err, refl, subst, sym, ap, ◌∙◌, inl, inr}
 use Rattle.scenario_reader.specs.declared.fault.LineFault.{LineFault}
 use Rattle.scenario_reader.specs.Plain.{PlainScenario}
 use Rattle.scenario_reader.specs.Grammar.{scenario_of}
@@ -13,7 +13,7 @@ use Rattle.pastry.specs.Faults.{IsRunningFault}
 use Rattle.pastry.specs.Reading.{IsRefused, IsScenario}
 use Rattle.pastry.specs.Unfit.{HasUnfitLine, IsUnfit}
 use Rattle.pastry.specs.Due.{DoneOr, IsRunRightly}
-use Rattle.pastry.proofs.Endings.{not_refused, read_bytes, refused_bytes, same_fault}
+use Rattle.pastry.proofs.Endings.{not_refused, read_bytes, refused_bytes, same_fault, whole_scenario}
 
 -- what was read is a scenario that can be run
 pub record WasFit (left left_after : Option (List ℕ)) : Type 0 where
@@ -36,6 +36,20 @@ data Ended (left left_after : Option (List ℕ)) (answered : Option TopFault) : 
   Refused : (f : LineFault) (read : IsRefused left left_after f) (is : answered ≡ Some (fault.Scenario f)) → Ended left left_after answered
   Unfit : (line : ℕ) (read : HasUnfitLine left left_after line) (is : answered ≡ Some (fault.Run (run_fault.NotForRun line))) → Ended left left_after answered
   Short : (is : answered ≡ Some fault.OutOfMemory) → Ended left left_after answered
+
+-- what is said of languages, said of scenarios
+no_refusal : (xs : List ℕ) (s : PlainScenario) (f : LineFault) → scenario_of xs ≡ Ok s → scenario_of (take INPUT_LIMIT xs) ≡ Err f → ⊥
+no_refusal xs s f is refused = not_refused scenario_of INPUT_LIMIT whole_scenario xs s f is refused
+
+was_there : (xs : List ℕ) (left left_after : Option (List ℕ)) (s : PlainScenario) → left ≡ Some xs → IsScenario left left_after s → scenario_of xs ≡ Ok s
+was_there xs left left_after s e read = read_bytes scenario_of INPUT_LIMIT xs left left_after s e read
+
+was_refused : (xs : List ℕ) (left left_after : Option (List ℕ)) (f : LineFault) → left ≡ Some xs → IsRefused left left_after f →
+    scenario_of (take INPUT_LIMIT xs) ≡ Err f
+was_refused xs left left_after f e read = refused_bytes scenario_of INPUT_LIMIT xs left left_after f e read
+
+same : {f g : LineFault} {r : Result PlainScenario LineFault} → r ≡ Err f → r ≡ Err g → f ≡ g
+same e h = same_fault scenario_of INPUT_LIMIT e h
 
 same_scenario : (s t : PlainScenario) (xs : List ℕ) → scenario_of xs ≡ Ok s → scenario_of xs ≡ Ok t → s ≡ t
 same_scenario s t xs e h = cc
@@ -65,24 +79,24 @@ module _ (left left_after : Option (List ℕ)) (rose_source rose_sink : Type 0) 
       first_unfit_line s ≡ Some line
   line_of_read xs s line e is read =
       subst (λ (t : PlainScenario). first_unfit_line t ≡ Some line)
-      (same_scenario read.scenario s xs (read_bytes xs left left_after read.scenario e read.read) is) read.first
+      (same_scenario read.scenario s xs (was_there xs left left_after read.scenario e read.read) is) read.first
 
   fit_as_read : (xs : List ℕ) (s : PlainScenario) → left ≡ Some xs → scenario_of xs ≡ Ok s → WasFit left left_after → first_unfit_line s ≡ None
   fit_as_read xs s e is read =
       subst (λ (t : PlainScenario). first_unfit_line t ≡ None)
-      (same_scenario read.scenario s xs (read_bytes xs left left_after read.scenario e read.read) is) read.fit
+      (same_scenario read.scenario s xs (was_there xs left left_after read.scenario e read.read) is) read.fit
 
   runs : (answered : Option TopFault) → Ended left left_after answered → (xs : List ℕ) (s : PlainScenario) → left ≡ Some xs → scenario_of xs ≡ Ok s →
       first_unfit_line s ≡ None → DoneOr answered None
   runs answered (Run read is) xs s e scenario fit = inl is
-  runs answered (Refused f read is) xs s e scenario fit = absurd (not_refused xs s f scenario (refused_bytes xs left left_after f e read))
+  runs answered (Refused f read is) xs s e scenario fit = absurd (no_refusal xs s f scenario (was_refused xs left left_after f e read))
   runs answered (Unfit line read is) xs s e scenario fit = absurd (none_is_some fit (line_of_read xs s line e scenario read))
   runs answered (Short is) xs s e scenario fit = inr is
 
   names : (answered : Option TopFault) → Ended left left_after answered → (xs : List ℕ) (s : PlainScenario) (line : ℕ) → left ≡ Some xs →
       scenario_of xs ≡ Ok s → first_unfit_line s ≡ Some line → DoneOr answered (Some (fault.Run (run_fault.NotForRun line)))
   names answered (Run read is) xs s line e scenario unfit = absurd (none_is_some (fit_as_read xs s e scenario read) unfit)
-  names answered (Refused f read is) xs s line e scenario unfit = absurd (not_refused xs s f scenario (refused_bytes xs left left_after f e read))
+  names answered (Refused f read is) xs s line e scenario unfit = absurd (no_refusal xs s f scenario (was_refused xs left left_after f e read))
   names answered (Unfit other read is) xs s line e scenario unfit =
       inl (is ∙ ap (λ n. Some (fault.Run (run_fault.NotForRun n))) (same_line (line_of_read xs s other e scenario read) unfit))
   names answered (Short is) xs s line e scenario unfit = inr is
@@ -90,11 +104,11 @@ module _ (left left_after : Option (List ℕ)) (rose_source rose_sink : Type 0) 
   refuses : (answered : Option TopFault) → Ended left left_after answered → (xs : List ℕ) (f : LineFault) → left ≡ Some xs →
       scenario_of (take INPUT_LIMIT xs) ≡ Err f → DoneOr answered (Some (fault.Scenario f))
   refuses answered (Run read is) xs f e none =
-      absurd (not_refused xs read.scenario f (read_bytes xs left left_after read.scenario e read.read) none)
+      absurd (no_refusal xs read.scenario f (was_there xs left left_after read.scenario e read.read) none)
   refuses answered (Refused g read is) xs f e none =
-      inl (is ∙ ap (λ (h : LineFault). Some (fault.Scenario h)) (same_fault (refused_bytes xs left left_after g e read) none))
+      inl (is ∙ ap (λ (h : LineFault). Some (fault.Scenario h)) (same (was_refused xs left left_after g e read) none))
   refuses answered (Unfit line read is) xs f e none =
-      absurd (not_refused xs read.scenario f (read_bytes xs left left_after read.scenario e read.read) none)
+      absurd (no_refusal xs read.scenario f (was_there xs left left_after read.scenario e read.read) none)
   refuses answered (Short is) xs f e none = inr is
 
   -- what a source has is run, or it is told why not

@@ -9,11 +9,12 @@ use Rattle.trace_text.specs.declared.limits.TheConstants.{MOST_TRACE_BYTES}
 use Rattle.trace_text.specs.Fronts.{IsFault}
 use Rattle.trace_text.specs.Traces.{IsTraceOf, PlainTrace, setting_of}
 use Rattle.trace_check.specs.declared.verdict.Part.{Part}
+use Rattle.trace_check.specs.declared.verdict.Verdict.{Verdict}
+use Rattle.trace_check.specs.declared.verdict.Verdict.TheVariants as verdict
 use Rattle.trace_check.specs.Verdicts.{IsFirstWrong}
 use Rattle.pastry.specs.declared.checking.TheConstants.{TRACE_LIMIT}
 use Rattle.pastry.specs.Headline.{Headline}
 use Rattle.pastry.specs.Reading.{WasRead, WasReadToEnd}
-use Rattle.pastry.specs.VerdictTexts.{legal_text, wrong_text}
 
 -- what was read is the text of this trace, within the limit
 pub record IsReadTrace (before after : Option (List ℕ)) (t : PlainTrace) : Type 0 where
@@ -34,8 +35,8 @@ pub record IsNoTrace (before after : Option (List ℕ)) (f : TraceFault) : Type 
   pub read : WasRead TRACE_LIMIT before after bytes
   pub refused : IsFaultOf bytes f
 
--- a legal record, of which the headline holds; and W says what became of the line that tells it
-pub record HasChecked (before after : Option (List ℕ)) (W : List ℕ → Type 0) (checked : Option Record) : Type 0 where
+-- a legal record, of which the headline holds; and W says what became of its text, which `told` gives
+pub record HasChecked (told : PlainTrace → Verdict → List ℕ) (before after : Option (List ℕ)) (W : List ℕ → Type 0) (checked : Option Record) : Type 0 where
   pub trace : PlainTrace
   pub record_of : Record
   pub read : IsReadTrace before after trace
@@ -44,18 +45,19 @@ pub record HasChecked (before after : Option (List ℕ)) (W : List ℕ → Type 
   pub legal : IsRecord (setting_of trace.nodes trace.founder) trace.entries
   pub headline : Headline (setting_of trace.nodes trace.founder) trace.entries
   pub same : checked ≡ Some record_of
-  pub written : W (legal_text (length trace.entries)
-      (ready_count (setting_of trace.nodes trace.founder) (world_after (setting_of trace.nodes trace.founder) trace.entries (length trace.entries))))
+  pub written : W (told trace (verdict.Legal
+      (ready_count (setting_of trace.nodes trace.founder) (world_after (setting_of trace.nodes trace.founder) trace.entries (length trace.entries)))))
 
--- a record that is not legal, and where; none is handed out, and W says what became of the line that tells it
-pub record HasFoundWrong (before after : Option (List ℕ)) (W : List ℕ → Type 0) (checked : Option Record) (entry : ℕ) (p : Part) : Type 0 where
+-- a record that is not legal, and where; none is handed out, and W says what became of its text
+pub record HasFoundWrong (told : PlainTrace → Verdict → List ℕ) (before after : Option (List ℕ)) (W : List ℕ → Type 0) (checked : Option Record)
+    (entry : ℕ) (p : Part) : Type 0 where
   pub trace : PlainTrace
   pub read : IsReadTrace before after trace
   pub wrong : IsFirstWrong (setting_of trace.nodes trace.founder) trace.entries entry p
   pub none : checked ≡ None
-  pub written : W (wrong_text entry p)
+  pub written : W (told trace (verdict.Wrong entry p))
 
 -- one or the other
-abbrev pub HasJudged : Option (List ℕ) → Option (List ℕ) → (List ℕ → Type 0) → Option Record → Type 0
-HasJudged before after W checked =
-    HasChecked before after W checked ⊎ ((entry : ℕ) × ((p : Part) × HasFoundWrong before after W checked entry p))
+abbrev pub HasJudged : (PlainTrace → Verdict → List ℕ) → Option (List ℕ) → Option (List ℕ) → (List ℕ → Type 0) → Option Record → Type 0
+HasJudged told before after W checked =
+    HasChecked told before after W checked ⊎ ((entry : ℕ) × ((p : Part) × HasFoundWrong told before after W checked entry p))

@@ -80,7 +80,18 @@ IsCheckingFault (fault.Run f) = ⊥
 IsCheckingFault fault.OutOfMemory = Unit {0}
 IsCheckingFault (fault.Wrong entry part) = Unit {0}
 
--- the ends of a run that has written something, if only a part
+-- while a node is served
+abbrev pub IsServingFault : TopFault → Type 0
+IsServingFault fault.Usage = ⊥
+IsServingFault (fault.Scenario f) = ⊥
+IsServingFault (fault.Trace f) = ⊥
+IsServingFault fault.Read = Unit {0}
+IsServingFault fault.Write = Unit {0}
+IsServingFault (fault.Run f) = ⊥
+IsServingFault fault.OutOfMemory = Unit {0}
+IsServingFault (fault.Wrong entry part) = ⊥
+
+-- the ends of a run that has written something, if only a part; a node that is served may have answered by any end
 abbrev pub HasWritten : Option TopFault → Type 0
 HasWritten None = Unit {0}
 HasWritten (Some fault.Usage) = ⊥

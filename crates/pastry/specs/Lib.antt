@@ -2,6 +2,7 @@ pub mod Asked
 pub mod Checked
 pub mod Due
 pub mod Faults
+pub mod Grouped
 pub mod Headline
 pub mod Judged
 pub mod Large
@@ -11,6 +12,7 @@ pub mod Pointed
 pub mod Prepared
 pub mod Reading
 pub mod Runs
+pub mod Serving
 pub mod Unfit
 pub mod VerdictTexts
 pub mod Written

@@ -21,11 +21,11 @@ pub record IsRun (s : PlainScenario) (r : Record) : Type 0 where
   pub legal : IsRecord (setting_of s) r.entries
   pub headline : Headline (setting_of s) r.entries
 
--- of a scenario, of which R says where it comes from, there is a record, of which P holds; and W says what became of its text,
--- which `text_of` gives
-pub record HasTold (R : PlainScenario → Type 0) (P : PlainScenario → Record → Type 0) (text_of : PlainScenario → Record → List ℕ) (W : List ℕ → Type 0)
+-- of a scenario or a script, of which R says where it comes from, there is a record, of which P holds; and W says what became of
+-- its text, which `text_of` gives
+pub record HasTold {A : Type 0} (R : A → Type 0) (P : A → Record → Type 0) (text_of : A → Record → List ℕ) (W : List ℕ → Type 0)
     (told : Option Record) : Type 0 where
-  pub scenario : PlainScenario
+  pub scenario : A
   pub record_of : Record
   pub from : R scenario
   pub is : P scenario record_of

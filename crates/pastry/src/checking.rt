@@ -1,7 +1,8 @@
 //! Traces that are read and checked.
 
-ghost use Rattle.std.specs.Prelude.{◌≡◌, ◌≢◌, ◌≤◌, ◌⊎◌, Some, None, Err, IfOk, IfErr, IfSome, IsSome};
+ghost use Rattle.std.specs.Prelude.{◌≡◌, ◌≢◌, ◌≤◌, ◌⊎◌, length, Some, None, Err, IfOk, IfErr, IfSome, IsSome};
 ghost use Rattle.outside.specs.Rose.{Rose};
+ghost use Rattle.scenario_reader.specs.declared.limits.TheConstants.{MOST_NODES};
 ghost use Rattle.trace_text.specs.Traces.{plain_trace, setting_of};
 ghost use Rattle.trace_text.specs.declared.fault.TraceFault.{TraceFault as Fault};
 ghost use Rattle.trace_check.specs.declared.verdict.Part.{Part as WrongPart};
@@ -11,11 +12,13 @@ ghost use Rattle.pastry.specs.Due.{fault_of};
 ghost use Rattle.pastry.specs.Faults.{status_of, HasWritten, IsCheckingFault, IsTraceReadingFault};
 ghost use Rattle.pastry.specs.Headline.{Headline};
 ghost use Rattle.pastry.specs.Judged.{IsJudged, handed_out};
-ghost use Rattle.pastry.specs.Written.{IsTaken, IsBrokenOff, WasReadByCalls};
+ghost use Rattle.node_service.specs.Written.{IsTaken, IsBrokenOff};
+ghost use Rattle.pastry.specs.VerdictTexts.{told_by, IsDrawable};
+ghost use Rattle.pastry.specs.Written.{WasReadByCalls};
 
 use crate::laws::headline_law;
 use crate::outcome::{Outcome, TopFault};
-use crate::verdict::verdict_text;
+use crate::verdict::{Telling, told};
 use outside::{ReadFault, Sink, Source, read_to_limit, write_all};
 use overlay_rules::Record;
 use ring_math::OutOfMemory;
@@ -47,7 +50,7 @@ fn read_input<S: Source>(alloc: Global, source: &mut S) -> Result<Trace, TopFaul
     }
 }
 
-/// A record that was checked, the verdict on it, and the line that tells the verdict.
+/// A record that was checked, the verdict on it, and the text of both.
 #[derive(Drop)]
 struct Judged {
     verdict: Verdict,
@@ -66,16 +69,18 @@ fn legal_law(trace: &Trace)
     headline_law(trace.nodes.as_slice(), trace.founder, &trace.steps.entries);
 }
 
-/// Checks the record of a trace. The headline holds of it if it is legal.
-fn judge(alloc: Global, trace: Trace) -> Result<Judged, OutOfMemory>
-    requires { IsSetting (setting_of trace.nodes trace.founder) }
-    ensures { IfOk result (λ j. IsJudged (plain_trace trace) j.verdict j.steps j.text) }
+/// Checks the record of a trace, and writes its text into memory. The headline holds of it if it is legal.
+fn judge(alloc: Global, telling: Telling, trace: Trace) -> Result<Judged, OutOfMemory>
+    requires setting { IsSetting (setting_of trace.nodes trace.founder) }
+    requires few { length trace.nodes ≤ MOST_NODES }
+    requires drawable { IsDrawable telling }
+    ensures { IfOk result (λ j. IsJudged (told_by telling) (plain_trace trace) j.verdict j.steps j.text) }
 {
     let verdict = check(alloc, &trace)?;
     if let Verdict::Legal { .. } = verdict {
         legal_law(&trace);
     }
-    let text = verdict_text(alloc, verdict, trace.steps.entries.len() as u64)?;
+    let text = told(alloc, telling, &trace, verdict)?;
     Ok(Judged {
         verdict,
         steps: trace.steps,
@@ -83,7 +88,7 @@ fn judge(alloc: Global, trace: Trace) -> Result<Judged, OutOfMemory>
     })
 }
 
-/// Writes the line that tells a verdict to a sink, and hands out the record if it is legal.
+/// Writes the text of a trace to a sink, and hands out the record if it is legal.
 fn write_judged<K: Sink>(sink: &mut K, judged: Judged) -> Outcome
     ensures status { result.status ≡ status_of result.fault }
     ensures told { result.fault ≢ Some TopFault.Write → result.fault ≡ fault_of judged.verdict }
@@ -108,13 +113,19 @@ fn write_judged<K: Sink>(sink: &mut K, judged: Judged) -> Outcome
     }
 }
 
-/// Reads a trace from a source, checks its record, and writes the verdict to a sink.
-pub(crate) fn check_read<S: Source, K: Sink>(alloc: Global, source: &mut S, sink: &mut K) -> Outcome
+/// Reads a trace from a source, checks its record, and writes its text to a sink.
+pub(crate) fn check_read<S: Source, K: Sink>(
+    alloc: Global,
+    telling: Telling,
+    source: &mut S,
+    sink: &mut K,
+) -> Outcome
+    requires { IsDrawable telling }
     ensures status { result.status ≡ status_of result.fault }
     ensures kind { IfSome result.fault IsCheckingFault }
-    ensures done { result.fault ≡ None → HasChecked (S.left source.old) (S.left source.new) (IsTaken K.takes K.taken sink.old sink.new) result.played }
-    ensures broken_off { result.fault ≡ Some TopFault.Write → HasJudged (S.left source.old) (S.left source.new) (IsBrokenOff K.takes K.taken sink.old sink.new) result.played }
-    ensures wrong { (entry : _) (part : WrongPart) → result.fault ≡ Some (TopFault.Wrong entry part) → HasFoundWrong (S.left source.old) (S.left source.new) (IsTaken K.takes K.taken sink.old sink.new) result.played entry part }
+    ensures done { result.fault ≡ None → HasChecked (told_by telling) (S.left source.old) (S.left source.new) (IsTaken K.takes K.taken sink.old sink.new) result.played }
+    ensures broken_off { result.fault ≡ Some TopFault.Write → HasJudged (told_by telling) (S.left source.old) (S.left source.new) (IsBrokenOff K.takes K.taken sink.old sink.new) result.played }
+    ensures wrong { (entry : _) (part : WrongPart) → result.fault ≡ Some (TopFault.Wrong entry part) → HasFoundWrong (told_by telling) (S.left source.old) (S.left source.new) (IsTaken K.takes K.taken sink.old sink.new) result.played entry part }
     ensures played { IsSome result.played → (result.fault ≡ None) ⊎ (result.fault ≡ Some TopFault.Write) }
     ensures nothing_written { ¬ HasWritten result.fault → sink.new ≡ sink.old }
     ensures no_trace { (f : Fault) → result.fault ≡ Some (TopFault.Trace f) → IsNoTrace (S.left source.old) (S.left source.new) f }
@@ -128,7 +139,7 @@ pub(crate) fn check_read<S: Source, K: Sink>(alloc: Global, source: &mut S, sink
         Ok(trace) => trace,
         Err(fault) => return Outcome::refused(fault),
     };
-    match judge(alloc, trace) {
+    match judge(alloc, telling, trace) {
         Ok(judged) => write_judged(sink, judged),
         Err(OutOfMemory) => Outcome::refused(TopFault::OutOfMemory),
     }

@@ -10,7 +10,7 @@ ghost use Rattle.pastry.specs.Large.{IsPlayedLarge};
 ghost use Rattle.pastry.specs.Outputs.{output_text};
 ghost use Rattle.pastry.specs.Played.{HasTold};
 ghost use Rattle.pastry.specs.Prepared.{Prepares};
-ghost use Rattle.pastry.specs.Written.{IsTaken, IsBrokenOff};
+ghost use Rattle.node_service.specs.Written.{IsTaken, IsBrokenOff};
 
 use crate::outcome::{Outcome, TopFault};
 use crate::output::Output;

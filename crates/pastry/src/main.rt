@@ -3,6 +3,7 @@
 
 mod cause;
 mod checking;
+mod grouping;
 mod help;
 mod large;
 mod laws;
@@ -14,6 +15,7 @@ mod playing;
 mod pointing;
 mod progress;
 mod reading;
+mod serving;
 mod table;
 mod telling;
 #[cfg(test)]
@@ -28,15 +30,15 @@ use fragments::large_scenario;
 use outcome::TopFault;
 use outside::{FromReader, ToWriter};
 use progress::Progress;
-use scenario_reader::Scenario;
+use scenario_reader::{LineFault, Scenario};
 use schedule::make_scenario;
 use std::alloc::Global;
 use std::process::ExitCode;
 use std::rc::RcStr;
 use std::{io, mem};
 use telling::{
-    tell_memory, tell_refused_words, tell_scenario_fault, tell_system_fault, tell_trace_fault,
-    tell_unfit, tell_unreadable_words, tell_wrong,
+    tell_memory, tell_refused_words, tell_scenario_fault, tell_script_fault, tell_system_fault,
+    tell_trace_fault, tell_unfit, tell_unreadable_words, tell_wrong,
 };
 use top::top;
 use watched::{Seen, WatchedReader, WatchedWriter};
@@ -80,10 +82,10 @@ fn expect_made(alloc: Global, words: &[RcStr], progress: &Progress<'_>) {
     }
 }
 
-/// What is to be kept of the input for messages: a trace is long, and no message shows it.
+/// What is to be kept of the input for messages: a trace is long, and no message shows it, and what a node is told never ends.
 fn seen_by(alloc: Global, words: &[RcStr]) -> Seen {
     match read_words(alloc, words) {
-        Ok(Mode::Check) => Seen::unkept(alloc),
+        Ok(Mode::Check | Mode::Draw { .. } | Mode::OneNode) => Seen::unkept(alloc),
         _ => Seen::new(alloc),
     }
 }
@@ -96,12 +98,21 @@ struct Met<'a> {
     output_fault: Option<io::Error>,
 }
 
+/// Tells that the input is none of the language of its mode.
+fn tell_refused_input(rt: &HostRuntime, fault: &LineFault, met: &Met<'_>) {
+    let alloc = rt.alloc();
+    match read_words(alloc, met.words) {
+        Ok(Mode::Groups) => tell_script_fault(rt, alloc, fault, met.input.bytes()),
+        _ => tell_scenario_fault(rt, alloc, fault, met.input.bytes()),
+    }
+}
+
 /// Tells on standard error why a run did not end well. That this fails is not told: there is nowhere left to tell it.
 fn tell(rt: &HostRuntime, fault: &TopFault, met: &Met<'_>) {
     let alloc = rt.alloc();
     match fault {
         TopFault::Usage => tell_refused_words(rt, alloc, met.words),
-        TopFault::Scenario(fault) => tell_scenario_fault(rt, alloc, fault, met.input.bytes()),
+        TopFault::Scenario(fault) => tell_refused_input(rt, fault, met),
         TopFault::Run(fault) => tell_unfit(rt, *fault, met.input.bytes()),
         TopFault::Trace(fault) => tell_trace_fault(rt, fault),
         TopFault::Read => tell_system_fault(rt, "the input could not be read", met.input.fault),

@@ -37,7 +37,8 @@ pub struct Outcome {
     /// The exit status: 0, or that of the fault.
     pub status: u8,
     pub fault: Option<TopFault>,
-    /// The record that was played, exactly with status 0 and 5; of a trace that was checked, its record, if it is legal.
+    /// The record that was played, exactly with status 0 and 5; of a trace that was checked, its record, if it is legal; of a node
+    /// that was served, none.
     pub played: Option<Record>,
 }
 
@@ -69,6 +70,19 @@ impl Outcome {
             status: 0,
             fault: None,
             played: Some(steps),
+        }
+    }
+
+    /// All was done, and there is no record to hand out.
+    pub fn over() -> Outcome
+        ensures status { result.status ≡ status_of result.fault }
+        ensures fault { result.fault ≡ None }
+        ensures played { result.played ≡ None }
+    {
+        Outcome {
+            status: 0,
+            fault: None,
+            played: None,
         }
     }
 

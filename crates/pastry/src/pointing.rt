@@ -8,7 +8,8 @@ ghost use Rattle.pastry.specs.Faults.{status_of, IsPlayingFault};
 ghost use Rattle.pastry.specs.Pointed.{HasPointed, IsPointed, IsToBeTold};
 ghost use Rattle.pastry.specs.Reading.{IsScenario, IsRefused};
 ghost use Rattle.pastry.specs.declared.reading.TheConstants.{INPUT_LIMIT};
-ghost use Rattle.pastry.specs.Written.{IsTaken, IsBrokenOff, WasReadByCalls};
+ghost use Rattle.node_service.specs.Written.{IsTaken, IsBrokenOff};
+ghost use Rattle.pastry.specs.Written.{WasReadByCalls};
 
 use crate::laws::headline_law;
 use crate::outcome::{Outcome, TopFault};

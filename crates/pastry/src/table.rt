@@ -9,7 +9,8 @@ ghost use Rattle.pastry.specs.Played.{HasTold, IsPlayed};
 ghost use Rattle.pastry.specs.Prepared.{Prepares};
 ghost use Rattle.pastry.specs.Reading.{IsScenario, IsRefused};
 ghost use Rattle.pastry.specs.declared.reading.TheConstants.{INPUT_LIMIT};
-ghost use Rattle.pastry.specs.Written.{IsTaken, IsBrokenOff, WasReadByCalls};
+ghost use Rattle.node_service.specs.Written.{IsTaken, IsBrokenOff};
+ghost use Rattle.pastry.specs.Written.{WasReadByCalls};
 
 use crate::outcome::{Outcome, TopFault};
 use crate::playing::{Prepared, finished, write_prepared};

@@ -3,7 +3,7 @@
 
 use crate::cause::Cause;
 use crate::help::{Help, ask_for_help};
-use crate::message::{Before, Explained, Grouped, Unfit};
+use crate::message::{Before, Explained, ExplainedScript, Grouped, Unfit};
 use cli_words::check_words;
 use overlay_harness::RunFault;
 use scenario_reader::LineFault;
@@ -50,6 +50,21 @@ pub(crate) fn tell_scenario_fault(
         }
         None => eprintln!(rt;
             "pastry: the input is no scenario, and too little memory is left to show where"
+        ),
+    };
+}
+
+/// The input, of which this was seen, is no script of groups.
+pub(crate) fn tell_script_fault(
+    rt: &HostRuntime,
+    alloc: Global,
+    fault: &LineFault,
+    text: Option<&[u8]>,
+) {
+    let _ = match text {
+        Some(text) => { eprintln!(rt; "pastry: {}", ExplainedScript::new(alloc, fault, text)) }
+        None => eprintln!(rt;
+            "pastry: the input is no script of groups, and too little memory is left to show where"
         ),
     };
 }

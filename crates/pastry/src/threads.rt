@@ -12,7 +12,8 @@ ghost use Rattle.pastry.specs.Prepared.{Prepares};
 ghost use Rattle.pastry.specs.Reading.{IsScenario, IsRefused};
 ghost use Rattle.pastry.specs.Unfit.{IsUnfit};
 ghost use Rattle.pastry.specs.declared.reading.TheConstants.{INPUT_LIMIT};
-ghost use Rattle.pastry.specs.Written.{IsTaken, IsBrokenOff, WasReadByCalls};
+ghost use Rattle.node_service.specs.Written.{IsTaken, IsBrokenOff};
+ghost use Rattle.pastry.specs.Written.{WasReadByCalls};
 
 use crate::laws::headline_law;
 use crate::outcome::{Outcome, TopFault};
@@ -46,34 +47,36 @@ fn run_scenario<R: Threads + Wait + Sync, T: Turnstile + Sync>(
     Ok(record)
 }
 
-/// Runs a scenario, and writes its report into memory.
+/// Runs a scenario, and writes its text into memory.
 fn prepare_run<R: Threads + Wait + Sync, T: Turnstile + Sync>(
     rt: &R,
     alloc: Global,
+    output: Output,
     scenario: &Scenario,
     turnstile: &T,
 ) -> Result<Prepared, RunFault>
-    ensures ok { IfOk result (λ p. Prepares IsRun (output_text Output.Report) scenario.now p.record p.text) }
+    ensures ok { IfOk result (λ p. Prepares IsRun (output_text output) scenario.now p.record p.text) }
     ensures fit { OnOk result (first_unfit_line scenario.now ≡ None) }
     ensures due { IfErr result (IsDueTo scenario.now) }
 {
     let record = run_scenario(rt, alloc, scenario, turnstile)?;
-    let text = output_text(alloc, Output::Report, scenario, &record)?;
+    let text = output_text(alloc, output, scenario, &record)?;
     Ok(Prepared { record, text })
 }
 
-/// Reads a scenario from a source, runs it, and writes its report to a sink.
+/// Reads a scenario from a source, runs it, and writes its text to a sink.
 pub(crate) fn run_read<R: Threads + Wait + Sync, S: Source, K: Sink, T: Turnstile + Sync>(
     rt: &R,
     alloc: Global,
+    output: Output,
     source: &mut S,
     sink: &mut K,
     turnstile: &T,
 ) -> Outcome
     ensures status { result.status ≡ status_of result.fault }
     ensures kind { IfSome result.fault IsRunningFault }
-    ensures done { result.fault ≡ None → HasTold (λ s. IsScenario (S.left source.old) (S.left source.new) s × (first_unfit_line s ≡ None)) IsRun (output_text Output.Report) (IsTaken K.takes K.taken sink.old sink.new) result.played }
-    ensures broken_off { result.fault ≡ Some TopFault.Write → HasTold (λ s. IsScenario (S.left source.old) (S.left source.new) s × (first_unfit_line s ≡ None)) IsRun (output_text Output.Report) (IsBrokenOff K.takes K.taken sink.old sink.new) result.played }
+    ensures done { result.fault ≡ None → HasTold (λ s. IsScenario (S.left source.old) (S.left source.new) s × (first_unfit_line s ≡ None)) IsRun (output_text output) (IsTaken K.takes K.taken sink.old sink.new) result.played }
+    ensures broken_off { result.fault ≡ Some TopFault.Write → HasTold (λ s. IsScenario (S.left source.old) (S.left source.new) s × (first_unfit_line s ≡ None)) IsRun (output_text output) (IsBrokenOff K.takes K.taken sink.old sink.new) result.played }
     ensures played { IsSome result.played ↔ ((result.fault ≡ None) ⊎ (result.fault ≡ Some TopFault.Write)) }
     ensures nothing_written { IsNone result.played → sink.new ≡ sink.old }
     ensures refused { (f : Fault) → result.fault ≡ Some (TopFault.Scenario f) → IsRefused (S.left source.old) (S.left source.new) f }
@@ -88,7 +91,7 @@ pub(crate) fn run_read<R: Threads + Wait + Sync, S: Source, K: Sink, T: Turnstil
         Ok(scenario) => scenario,
         Err(fault) => return Outcome::refused(fault),
     };
-    match prepare_run(rt, alloc, &scenario, turnstile) {
+    match prepare_run(rt, alloc, output, &scenario, turnstile) {
         Ok(prepared) => write_prepared(sink, prepared),
         Err(RunFault::OutOfMemory) => Outcome::refused(TopFault::OutOfMemory),
         Err(fault) => Outcome::refused(TopFault::Run(fault)),

@@ -26,15 +26,15 @@ pub(crate) struct Explained<'a> {
 
 /// A place of a line. The line is counted from 1, the place from 0.
 #[derive(Clone, Copy)]
-struct Spot<'a> {
-    number: u32,
-    line: &'a [u8],
-    place: usize,
+pub(crate) struct Spot<'a> {
+    pub(crate) number: u32,
+    pub(crate) line: &'a [u8],
+    pub(crate) place: usize,
 }
 
 impl Spot<'_> {
     /// Writes what is expected here and what is found, with the line and a caret.
-    fn explain<W: fmt::Write, E: fmt::Display, F: fmt::Display>(
+    pub(crate) fn explain<W: fmt::Write, E: fmt::Display, F: fmt::Display>(
         &self,
         f: &mut fmt::Formatter<W>,
         expected: &E,

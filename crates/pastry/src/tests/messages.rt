@@ -2,7 +2,8 @@
 
 use crate::cause::Cause;
 use crate::help::ask_for_help;
-use crate::message::{Before, Explained, Grouped};
+use crate::message::{Before, Explained, ExplainedScript, Grouped};
+use group_reader::read_groups;
 use scenario_reader::read_scenario;
 use std::alloc::{AllocError, Global};
 use std::process::Abort;
@@ -344,5 +345,66 @@ fn numbers_are_grouped(rt: HostRuntime) -> Result<(), Fail> {
         let said = format!(in rt.alloc(); "{}", Grouped(number))?;
         assert_eq!(rt; said.as_str(), due);
     }
+    Ok(())
+}
+
+/// What is said of a script of groups; nothing if it is one.
+fn script_message(alloc: Global, text: &[u8]) -> Result<String, AllocError> {
+    match read_groups(alloc, text) {
+        Ok(_) => Ok(String::new(alloc)),
+        Err(fault) => format!(in alloc; "{}", ExplainedScript::new(alloc, &fault, text)),
+    }
+}
+
+/// What is said of one more line behind a scenario of three lines and the line `groups`, in front of that line and its caret.
+#[test]
+fn lines_of_groups_are_told(rt: HostRuntime) -> Result<(), AllocError> {
+    let cases = [
+        (
+            "join A g",
+            "line 5, column 1: expected subscribe, leave, publish, settle or deliver, found \"join\"",
+            0,
+        ),
+        (
+            "leave A",
+            "line 5, column 1: expected as many words as \"leave NAME GROUP\", found \"leave A\"",
+            0,
+        ),
+        (
+            "subscribe C g",
+            "line 5, column 11: expected a node that the scenario declares, found \"C\"",
+            10,
+        ),
+        (
+            "publish A g 123",
+            "line 5, column 13: expected bytes in pairs of hexadecimal digits, or -, found \"123\"",
+            12,
+        ),
+        (
+            "settle 1000001",
+            "line 5, column 8: expected at most 1,000,000 deliveries over all lines behind the line \"groups\", found \"1000001\"",
+            7,
+        ),
+    ];
+    for (line, said, place) in cases {
+        let text = format!(in rt.alloc(); "node A -\nnode B -\nfirst A\ngroups\n{line}")?;
+        let spaces = SPACES.get(..place).unwrap_or("");
+        let due = format!(in rt.alloc(); "{said}\n    {line}\n    {spaces}^")?;
+        let told = script_message(rt.alloc(), text.as_bytes())?;
+        assert_eq!(rt; told.as_str(), due.as_str());
+    }
+    Ok(())
+}
+
+/// A fault of the scenario is told as such, and so is a script that has nothing but a scenario.
+#[test]
+fn scripts_are_told_by_their_parts(rt: HostRuntime) -> Result<(), AllocError> {
+    let told = script_message(rt.alloc(), b"node A -\nfirst A\nfirst A\ngroups\n")?;
+    let due =
+        "line 3, column 1: expected one line \"first NAME\", found a second, after that of line 2\n    first A\n    ^";
+    assert_eq!(rt; told.as_str(), due);
+    let told = script_message(rt.alloc(), b"node A -\nfirst A\n")?;
+    let due = "line 3: expected a line \"groups\" behind the scenario, found the end of the input";
+    assert_eq!(rt; told.as_str(), due);
     Ok(())
 }

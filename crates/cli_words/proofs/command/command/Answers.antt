@@ -3,13 +3,23 @@ use Rattle.cli_words.proofs.command.command.Goals as goal
 
 pub returns-clause-ok : goal.returns-clause-ok
 returns-clause-ok c =
-    let mode = c.mode_arg.ensures.rule in (
+    let mode = c.mode_arg.ensures.rule in
+    let one = one_more c.bare_command.result c.in_ok-arg.field-0 c.mode_arg.result _ _ c.in_ok-arg.ensures c.mode_arg.ensures.local
+    c.bare_command.ensures mode.2 in
+    let two = one_more c.in_ok-arg.field-0 c.in_ok-arg-2.field-0 c.nodes_arg.result _ _ c.in_ok-arg-2.ensures c.nodes_arg.ensures.local one
+    c.nodes_arg.ensures.rule in
+    let three = one_more c.in_ok-arg-2.field-0 c.in_ok-arg-3.field-0 c.seed_arg.result _ _ c.in_ok-arg-3.ensures c.seed_arg.ensures.local two
+    c.seed_arg.ensures.rule in
+    let four = one_more c.in_ok-arg-3.field-0 c.in_ok-arg-4.field-0 c.room_arg.result _ _ c.in_ok-arg-4.ensures c.room_arg.ensures.local three
+    c.room_arg.ensures.rule in
+    let five = one_more c.in_ok-arg-4.field-0 c.in_ok-arg-5.field-0 c.size_arg.result _ _ c.in_ok-arg-5.ensures c.size_arg.ensures.local four
+    c.size_arg.ensures.rule in
+    let six = one_more c.in_ok-arg-5.field-0 c.in_ok-arg-6.field-0 c.from_arg.result _ _ c.in_ok-arg-6.ensures c.from_arg.ensures.local five
+    c.from_arg.ensures.rule in
+    let seven = one_more c.in_ok-arg-6.field-0 c.in_ok-arg-7.field-0 c.entries_arg.result _ _ c.in_ok-arg-7.ensures c.entries_arg.ensures.local six
+    c.entries_arg.ensures.rule in (
       mode.0,
       mode.1,
-      one_more c.in_ok-arg-4.field-0 c.in_ok-command.command c.size_arg.result _ _ c.in_ok-command.ensures c.size_arg.ensures.local
-          (one_more c.in_ok-arg-3.field-0 c.in_ok-arg-4.field-0 c.room_arg.result _ _ c.in_ok-arg-4.ensures c.room_arg.ensures.local
-          (one_more c.in_ok-arg-2.field-0 c.in_ok-arg-3.field-0 c.seed_arg.result _ _ c.in_ok-arg-3.ensures c.seed_arg.ensures.local
-          (one_more c.in_ok-arg.field-0 c.in_ok-arg-2.field-0 c.nodes_arg.result _ _ c.in_ok-arg-2.ensures c.nodes_arg.ensures.local
-          (one_more c.bare_command.result c.in_ok-arg.field-0 c.mode_arg.result _ _ c.in_ok-arg.ensures c.mode_arg.ensures.local c.bare_command.ensures mode.2)
-          c.nodes_arg.ensures.rule) c.seed_arg.ensures.rule) c.room_arg.ensures.rule) c.size_arg.ensures.rule,
+      one_more c.in_ok-arg-7.field-0 c.in_ok-command.command c.threads_arg.result _ _ c.in_ok-command.ensures c.threads_arg.ensures.local seven
+          c.threads_arg.ensures.rule,
     )

@@ -1,6 +1,5 @@
-use Rattle.std.proofs.Common.{◌≡◌, ◌∙◌, ◌+◌, ◌-◌, List, ℕ, false, drop, length, min, sym, take}
+use Rattle.std.proofs.Common.{◌∙◌, List, ℕ, sym}
 use Rattle.std.proofs.lemmas.List.{take_rest}
-use Rattle.group_reader.specs.Parts.{is_mark}
 use Rattle.group_reader.proofs.Cutting.{cut_next}
 use Rattle.group_reader.proofs.cut.parts_of.Goals as goal
 

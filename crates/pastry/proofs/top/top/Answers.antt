@@ -19,27 +19,37 @@ returns-in-Ok-clause-broken_off g c = λ e. record {
   holds = c.run_mode.ensures.broken_off e;
 }
 
+pub returns-in-Ok-clause-nothing_written : goal.returns-in-Ok-clause-nothing_written
+returns-in-Ok-clause-nothing_written g c = λ not.
+    elim (c.run_mode.ensures.nothing_written not) [
+      | inl same ↦ inl same
+      | inr node ↦ inr (AskFor-from_read _ _ _ node (record { reads = c.in-Ok.ensures.reads; plain = c.in-Ok.ensures.plain }))
+    ]
+
+pub returns-in-Ok-clause-served : goal.returns-in-Ok-clause-served
+returns-in-Ok-clause-served g c = inr (record {
+  mode = c.in-Ok.mode;
+  asked = AskFor-from_read _ _ c.in-Ok.mode refl (record { reads = c.in-Ok.ensures.reads; plain = c.in-Ok.ensures.plain });
+  holds = c.run_mode.ensures.served;
+})
+
 pub returns-in-Ok-clause-untouched : goal.returns-in-Ok-clause-untouched
 returns-in-Ok-clause-untouched g c =
     elim (reads_or_not c.in-Ok.mode) [
       | inl reads ↦ inr (record {
         mode = c.in-Ok.mode;
         asked = AskFor-from_read _ _ c.in-Ok.mode refl (record { reads = c.in-Ok.ensures.reads; plain = c.in-Ok.ensures.plain });
-        holds = (reads, c.run_mode.ensures.reads reads);
+        holds = (reads, c.run_mode.ensures.reads);
       })
       | inr not ↦ inl (c.run_mode.ensures.left_alone not)
     ]
 
 pub returns-in-Ok-clause-refused : goal.returns-in-Ok-clause-refused
-returns-in-Ok-clause-refused g c = λ f e.
-    let said = c.run_mode.ensures.refused f e in (
-      record {
-        mode = c.in-Ok.mode;
-        asked = AskFor-from_read _ _ c.in-Ok.mode refl (record { reads = c.in-Ok.ensures.reads; plain = c.in-Ok.ensures.plain });
-        holds = said.0;
-      },
-      said.1,
-    )
+returns-in-Ok-clause-refused g c = λ f e. record {
+  mode = c.in-Ok.mode;
+  asked = AskFor-from_read _ _ c.in-Ok.mode refl (record { reads = c.in-Ok.ensures.reads; plain = c.in-Ok.ensures.plain });
+  holds = c.run_mode.ensures.refused f e;
+}
 
 pub returns-in-Ok-clause-unread : goal.returns-in-Ok-clause-unread
 returns-in-Ok-clause-unread g c = λ e.
@@ -53,19 +63,40 @@ returns-in-Ok-clause-unread g c = λ e.
     )
 
 pub returns-in-Ok-clause-wrong : goal.returns-in-Ok-clause-wrong
-returns-in-Ok-clause-wrong g c = λ entry part e.
-    let said = c.run_mode.ensures.wrong entry part e in
-    (AskFor-from_read _ _ _ said.0 (record { reads = c.in-Ok.ensures.reads; plain = c.in-Ok.ensures.plain }), said.1)
+returns-in-Ok-clause-wrong g c = λ entry part e. record {
+  mode = c.in-Ok.mode;
+  asked = AskFor-from_read _ _ c.in-Ok.mode refl (record { reads = c.in-Ok.ensures.reads; plain = c.in-Ok.ensures.plain });
+  holds = c.run_mode.ensures.wrong entry part e;
+}
 
 pub returns-in-Ok-clause-unfit : goal.returns-in-Ok-clause-unfit
 returns-in-Ok-clause-unfit g c = λ f e.
-    let said = c.run_mode.ensures.unfit f e in
-    (AskFor-from_read _ _ _ said.0 (record { reads = c.in-Ok.ensures.reads; plain = c.in-Ok.ensures.plain }), said.1)
+    let said = c.run_mode.ensures.unfit f e in (
+      record {
+        mode = c.in-Ok.mode;
+        asked = AskFor-from_read _ _ c.in-Ok.mode refl (record { reads = c.in-Ok.ensures.reads; plain = c.in-Ok.ensures.plain });
+        holds = said.0;
+      },
+      said.1,
+    )
 
 pub returns-in-Ok-clause-no_trace : goal.returns-in-Ok-clause-no_trace
 returns-in-Ok-clause-no_trace g c = λ f e.
-    let said = c.run_mode.ensures.no_trace f e in
-    (AskFor-from_read _ _ _ said.0 (record { reads = c.in-Ok.ensures.reads; plain = c.in-Ok.ensures.plain }), said.1)
+    let said = c.run_mode.ensures.no_trace f e in (
+      record {
+        mode = c.in-Ok.mode;
+        asked = AskFor-from_read _ _ c.in-Ok.mode refl (record { reads = c.in-Ok.ensures.reads; plain = c.in-Ok.ensures.plain });
+        holds = said.0;
+      },
+      said.1,
+    )
+
+pub returns-in-Ok-clause-complete : goal.returns-in-Ok-clause-complete
+returns-in-Ok-clause-complete g c = inr (inr (
+  c.in-Ok.mode,
+  AskFor-from_read _ _ c.in-Ok.mode refl (record { reads = c.in-Ok.ensures.reads; plain = c.in-Ok.ensures.plain }),
+  c.run_mode.ensures.due,
+))
 
 -- ---- no mode
 

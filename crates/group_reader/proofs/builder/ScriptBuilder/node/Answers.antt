@@ -1,7 +1,7 @@
-use Rattle.std.proofs.Common.{◌≡◌, ◌∙◌, Contains, List, Some, ap, subst, sym}
+use Rattle.std.proofs.Common.{◌∙◌, Contains, List, ap, subst, sym}
 use Rattle.std.specs.Prelude.{option_map}
 use Rattle.scenario_reader.specs.declared.node.NodeLine.{NodeLine}
-use Rattle.scenario_reader.specs.Plain.{ids, node_named}
+use Rattle.scenario_reader.specs.Plain.{ids}
 use Rattle.group_reader.specs.Plain.{Draft}
 use Rattle.group_reader.proofs.Reading.{id_of_named}
 use Rattle.group_reader.proofs.builder.ScriptBuilder.node.Goals as goal

@@ -1,0 +1,9 @@
+pub mod Angles
+pub mod Layouts
+pub mod Ways
+pub mod Seats
+pub mod Sides
+pub mod Nodes
+pub mod Keys
+pub mod Captions
+pub mod Ring

@@ -1,0 +1,3 @@
+mod Plain
+pub mod Pieces
+pub mod Written

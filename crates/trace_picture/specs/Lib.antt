@@ -1,0 +1,4 @@
+pub mod Keys
+pub mod Window
+pub mod Verdicts
+pub mod Picture
