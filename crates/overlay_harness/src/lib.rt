@@ -8,6 +8,7 @@ mod cells;
 mod enough;
 mod fault;
 mod hand;
+mod idle;
 mod limits;
 mod rounds;
 mod runs;

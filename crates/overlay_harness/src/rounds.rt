@@ -15,7 +15,6 @@ use outside::Turnstile;
 use ring_math::OutOfMemory;
 use std::alloc::Global;
 use std::sync::Wait;
-use std::sync::atomic::Ordering;
 use std::thread;
 use std::thread::Threads;
 
@@ -78,7 +77,7 @@ fn first_round<R: Threads + Wait + Sync, T: Turnstile + Sync>(
     requires copies { (1 ≤ stage.now.copies) × (stage.now.copies ≤ 4) }
     ensures { AllZip (ServedUnlessStopped hall.now.post.now (shown stage.now)) workers.old workers.new }
 {
-    hall.idle.store(0, Ordering::SeqCst);
+    hall.idle.begin_round();
     let threads = workers.len().max(1);
     thread::for_each_mut(
         rt,
@@ -100,7 +99,7 @@ fn next_round<R: Threads + Wait + Sync, T: Turnstile + Sync>(
     requires copies { (1 ≤ copies) × (copies ≤ 4) }
     ensures { AllZip (WentOnUnlessStopped hall.now.post.now) workers.old workers.new }
 {
-    hall.idle.store(0, Ordering::SeqCst);
+    hall.idle.begin_round();
     let threads = workers.len().max(1);
     thread::for_each_mut(
         rt,

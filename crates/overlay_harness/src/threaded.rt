@@ -15,6 +15,7 @@ ghost use Rattle.overlay_harness.specs.declared.limits.TheConstants.{MOST_RUN_NO
 
 use crate::cells::{cells_law, new_cells};
 use crate::hand::{hand_over_unread, serve_stages};
+use crate::idle::IdleThreads;
 use crate::rounds::run_stage;
 use crate::stage::{Stage, stages};
 use crate::worker::{Hall, Worker};
@@ -25,7 +26,7 @@ use ring_math::{Id, OutOfMemory};
 use scenario_reader::{NodeLine, Scenario, What};
 use std::alloc::Global;
 use std::sync::Wait;
-use std::sync::atomic::{AtomicBool, AtomicUsize};
+use std::sync::atomic::AtomicBool;
 use std::thread::Threads;
 use wire_msg::Frame;
 
@@ -98,16 +99,15 @@ fn served_by_threads<R: Threads + Wait + Sync, T: Turnstile + Sync>(
     ensures { IfOk result (λ cells. IsServedTo scenario.now (map shown (take count all.now)) cells.items) }
 {
     let nodes = ids_of(alloc, scenario.nodes())?;
+    let idle = IdleThreads::new(alloc, nodes.len())?;
     let (post, mut own) = Post::new(alloc, &nodes)?;
     let mut workers = employ(rt, alloc, scenario, &post, &mut own)?;
     let refused = AtomicBool::new(false);
-    let idle = AtomicUsize::new(0);
     let hall = Hall {
         post: &post,
         turnstile,
         refused: &refused,
         idle: &idle,
-        threads: workers.len(),
     };
     run_stages(
         rt,

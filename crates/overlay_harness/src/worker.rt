@@ -8,6 +8,7 @@ ghost use Rattle.overlay_harness.specs.Shown.{shown};
 ghost use Rattle.overlay_harness.specs.Stages.{said_to};
 ghost use Rattle.overlay_harness.specs.Work.{MayBeTold, told};
 
+use crate::idle::IdleThreads;
 use crate::stage::Stage;
 use crate::telling::{Said, command_in};
 use node_cell::{CellFault, NodeCell};
@@ -17,9 +18,8 @@ use ring_math::{Id, OutOfMemory};
 use scenario_reader::{Action, What};
 use std::alloc::Global;
 use std::sync::Wait;
-use std::sync::atomic::{AtomicBool, AtomicUsize, Ordering};
-use std::thread::{Parker, yield_now};
-use std::time::Duration;
+use std::sync::atomic::{AtomicBool, Ordering};
+use std::thread::yield_now;
 
 /// A node's cell in a run, with what its thread has to know and to tell.
 #[derive(Drop)]
@@ -40,21 +40,17 @@ pub(crate) struct Hall<'a, T> {
     pub(crate) turnstile: &'a T,
     /// Set once a thread was refused memory: then none takes another frame.
     pub(crate) refused: &'a AtomicBool,
-    /// How many threads of this round found their mailboxes empty, or take nothing more.
-    pub(crate) idle: &'a AtomicUsize,
-    /// How many threads there are.
-    pub(crate) threads: usize,
+    /// The threads of this round that found their mailboxes empty, or take nothing more.
+    pub(crate) idle: &'a IdleThreads,
 }
 
 /// How often a thread looks again before it takes its mailbox for empty, while other threads of the round still work. To start a
 /// round costs more than to look.
-const MOST_LOOKS: u32 = 1_000;
+const MOST_LOOKS: u32 = 30;
 
-/// So many looks follow each other at once. From then on the thread pauses, so that those with work have the processors.
-const QUICK_LOOKS: u32 = 10;
-
-/// How long a pause is, in microseconds.
-const PAUSE: u64 = 50;
+/// So many looks follow each other at once. From then on the thread pauses until somebody sends to its node, so that those with
+/// work have the processors.
+const QUICK_LOOKS: u32 = 2;
 
 /// The work of a thread in the first round of a stage: it submits the commands to its node, and then serves.
 pub(crate) fn begin_stage<R: Wait, T: Turnstile>(
@@ -74,9 +70,11 @@ pub(crate) fn begin_stage<R: Wait, T: Turnstile>(
         Ok(()) => {}
         Err(fault) => stop(hall.refused, worker, fault),
     }
+    hall.idle.leave(place);
 }
 
-/// The work of a thread in a later round: it puts what its cell still has unsent, and then serves.
+/// The work of a thread in a later round: it puts what its cell still has unsent, which the one frame had it send that was served
+/// between rounds, and then serves.
 pub(crate) fn go_on<R: Wait, T: Turnstile>(
     rt: &R,
     alloc: Global,
@@ -89,10 +87,11 @@ pub(crate) fn go_on<R: Wait, T: Turnstile>(
     requires copies { (1 ≤ copies) × (copies ≤ 4) }
     ensures { WentOnUnlessStopped hall.now.post.now worker.old worker.new }
 {
-    match serve_left(rt, alloc, hall, copies, place, worker) {
+    match serve_left(rt, alloc, hall, copies, place, worker, 1) {
         Ok(()) => {}
         Err(fault) => stop(hall.refused, worker, fault),
     }
+    hall.idle.leave(place);
 }
 
 /// Keeps why a thread stopped. Where it was refused memory, the others are to stop too.
@@ -118,9 +117,11 @@ fn serve_stage<R: Wait, T: Turnstile>(
     requires copies { (1 ≤ stage.now.copies) × (stage.now.copies ≤ 4) }
     ensures { OnOk result (ServedIn hall.now.post.now (shown stage.now) worker.old worker.new) }
 {
+    let before = worker.cell.history().len();
     tell_own(alloc, &mut worker.cell, stage.actions)?;
+    let told = worker.cell.history().len().saturating_sub(before);
     worker.left = stage.budget;
-    serve_left(rt, alloc, hall, stage.copies, place, worker)
+    serve_left(rt, alloc, hall, stage.copies, place, worker, told)
 }
 
 /// Submits the commands to a cell's own node among these actions, in order.
@@ -161,7 +162,7 @@ fn command_to(node: Id, what: &What) -> Option<Said<'_>>
 }
 
 /// Puts what the cell has unsent, and takes one frame after another, as many as are left to the node, until its mailbox is empty.
-/// What a frame has the cell send is put before the next is taken.
+/// What a frame has the cell send is put before the next is taken. What is unsent at first comes from so many last entries.
 fn serve_left<R: Wait, T: Turnstile>(
     rt: &R,
     alloc: Global,
@@ -169,23 +170,36 @@ fn serve_left<R: Wait, T: Turnstile>(
     copies: u8,
     place: usize,
     worker: &mut Worker,
+    fresh: usize,
 ) -> Result<(), CellFault>
     requires at_work { IsAtWork hall.now.post.now worker.old.cell }
     requires copies { (1 ≤ copies) × (copies ≤ 4) }
     ensures { OnOk result (WentOn hall.now.post.now worker.old worker.new) }
 {
     post_all(rt, alloc, hall.post, &mut worker.cell, copies)?;
+    rouse_receivers(hall.post, hall.idle, &worker.cell, fresh);
     while worker.left > 0 && !hall.refused.load(Ordering::SeqCst) {
         hall.turnstile.pass(place, worker.turns);
         worker.turns = worker.turns.saturating_add(1);
-        if !serve_patiently(rt, alloc, hall, worker)? {
+        if !serve_patiently(rt, alloc, hall, place, worker)? {
             return Ok(());
         }
         post_all(rt, alloc, hall.post, &mut worker.cell, copies)?;
+        rouse_receivers(hall.post, hall.idle, &worker.cell, 1);
     }
-    // What its node may no longer take is nothing to wait for.
-    hall.idle.fetch_add(1, Ordering::SeqCst);
     Ok(())
+}
+
+/// Wakes the threads of the nodes to which a cell's last entries, so many of them, sent.
+fn rouse_receivers(post: &Post, idle: &IdleThreads, cell: &NodeCell, fresh: usize) {
+    let history = cell.history();
+    for entry in &history[history.len().saturating_sub(fresh)..] {
+        for envelope in entry.sent.as_slice() {
+            if let Some(place) = post.place(envelope.receiver) {
+                idle.rouse(place);
+            }
+        }
+    }
 }
 
 /// Serves one frame, and looks again for one while other threads work.
@@ -193,6 +207,7 @@ fn serve_patiently<R: Wait, T: Turnstile>(
     rt: &R,
     alloc: Global,
     hall: &Hall<'_, T>,
+    place: usize,
     worker: &mut Worker,
 ) -> Result<bool, CellFault>
     requires { IsAtWork hall.now.post.now worker.old.cell }
@@ -202,26 +217,26 @@ fn serve_patiently<R: Wait, T: Turnstile>(
     if serve_once(rt, alloc, hall.post, worker)? {
         return Ok(true);
     }
-    hall.idle.fetch_add(1, Ordering::SeqCst);
     for look in 0..MOST_LOOKS {
-        if hall.idle.load(Ordering::SeqCst) >= hall.threads {
+        let rested = hall.idle.rest(place);
+        if hall.idle.are_all() {
             return Ok(false);
         }
-        let_others_work(rt, look);
+        let_others_work(rt, hall.idle, place, rested && look >= QUICK_LOOKS);
         if serve_once(rt, alloc, hall.post, worker)? {
-            hall.idle.fetch_sub(1, Ordering::SeqCst);
+            hall.idle.go_on(place);
             return Ok(true);
         }
     }
     Ok(false)
 }
 
-/// What a thread does before it looks again, having looked so many times.
-fn let_others_work<R: Wait>(rt: &R, looks: u32) {
-    if looks < QUICK_LOOKS {
-        yield_now();
+/// What a thread does before it looks again: it pauses, or only lets others come first.
+fn let_others_work<R: Wait>(rt: &R, idle: &IdleThreads, place: usize, pauses: bool) {
+    if pauses {
+        idle.pause(rt, place);
     } else {
-        Parker::new().park_timeout(rt, Duration::from_micros(PAUSE));
+        yield_now();
     }
 }
 
