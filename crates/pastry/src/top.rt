@@ -33,8 +33,8 @@ use std::thread::Threads;
 /// people; `points` plays it with access points; `groups` reads a script of groups, plays its scenario and then its groups, and
 /// writes the reports of both; `big` plays a scenario that it makes, and writes its summary; `large` plays one that stores a large
 /// file and fetches it again, and writes what came of the file; `check` reads a trace, and writes whether its record is legal or
-/// where it is wrong first; `draw` reads one, and writes a picture of it. The text is whole in memory before its first byte is written. `node` is one node, which answers each
-/// line of the source before it reads on.
+/// where it is wrong first; `draw` reads one, and writes a picture of it. The text is whole in memory before its first byte is
+/// written. `node` is one node, which answers each line of the source before it reads on.
 pub fn top<R: Threads + Wait + Sync, S: Source, K: Sink, T: Turnstile + Sync>(
     rt: &R,
     alloc: Global,
@@ -52,9 +52,10 @@ pub fn top<R: Threads + Wait + Sync, S: Source, K: Sink, T: Turnstile + Sync>(
     // Without a fault the words ask for a mode, and what it is to do was done, with a record that is handed out. In `play` and
     // `trace` and `messages` the source was read to its end, what it had is a scenario, and that was played; in `big` and `large` one
     // was made and played, and the source is as it was; the record is the scenario's played record. In `points` the scenario that
-    // was read was played with access points, and the record is that of this play. In `run` what was read is a scenario that can
-    // be run, and the record is one of its runs. In `check` the source was read to its end, what
-    // it had is a trace, and the record is that of the trace, and legal. In each mode the headline holds of the record, whoever
+    // was read was played with access points, and the record is that of this play. In `run`, and in `trace` with threads, what was
+    // read is a scenario that can be run, and the record is one of its runs. In `groups` what was read is a script, both its parts
+    // were played, and the record is that of part one. In `check` and `draw` the source was read to its end, what it had is a
+    // trace, and the record is that of the trace, and legal. In each mode that has a record the headline holds of it, whoever
     // made it: one owner per key, and one plain table of files. The sink took the whole text, by calls that offered each time
     // what was left. With a fault of the sink all is the same, but for the text, which breaks off at the call that failed; and
     // that `check` and `draw` may then have found a record wrong, and hand out none.
