@@ -100,12 +100,7 @@ fn put_outwards(text: &mut Text, layout: &Layout, owner: Id) -> Result<(), OutOf
     close_group(text)
 }
 
-fn put_titled_key(
-    text: &mut Text,
-    layout: &Layout,
-    tier: u32,
-    key: Id,
-) -> Result<(), OutOfMemory>
+fn put_titled_key(text: &mut Text, layout: &Layout, tier: u32, key: Id) -> Result<(), OutOfMemory>
     requires layout { IsLayout layout.now }
     requires tier { tier < layout.now.tiers }
     ensures { OnOk result (text.new ≡ text.old ++ text_of (titled_key layout.now tier key)) }
@@ -118,13 +113,7 @@ fn put_titled_key(
 }
 
 /// The triangle of a key that stands at the top at this height, and its label.
-fn put_mark(
-    text: &mut Text,
-    layout: &Layout,
-    y: u32,
-    tier: u32,
-    key: Id,
-) -> Result<(), OutOfMemory>
+fn put_mark(text: &mut Text, layout: &Layout, y: u32, tier: u32, key: Id) -> Result<(), OutOfMemory>
     requires layout { IsLayout layout.now }
     requires tier { tier < layout.now.tiers }
     requires low { 5 ≤ y }
@@ -152,7 +141,12 @@ fn put_key_guide(text: &mut Text, layout: &Layout, y: u32, tier: u32) -> Result<
     }
     let x = layout.center;
     let far = y + 5 + LABEL_ROOM * tier;
-    put_line(text, Class::Guide, Point { x, y: y + 5 }, Point { x, y: far })
+    put_line(
+        text,
+        Class::Guide,
+        Point { x, y: y + 5 },
+        Point { x, y: far },
+    )
 }
 
 /// The first digits of a key, inwards.
