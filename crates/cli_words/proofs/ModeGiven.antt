@@ -15,7 +15,7 @@ use Rattle.clap.specs.declared.builder.value_parser.ValueParser.TheVariants as v
 use Rattle.clap.proofs.OnLiterals.{clap_on_literals}
 use Rattle.clap.proofs.WalkLemmas.{list_any-map}
 use Rattle.cli_words.specs.declared.mode.Mode.{Mode}
-use Rattle.cli_words.specs.declared.mode.Mode.TheVariants.{Play, Run, Big, Trace, TraceRun, Check, Points, Large, Messages, Groups, Draw, OneNode}
+use Rattle.cli_words.specs.declared.mode.Mode.TheVariants.{Play, Run, Big, Check, Points, Large, Messages, Groups, Draw, OneNode}
 use Rattle.cli_words.specs.declared.modes.Options.{Options}
 use Rattle.cli_words.specs.Command.{AreModes, command_of, mode_named, mode_names, mode_of, options_of, trace_mode}
 use Rattle.cli_words.proofs.Accepted.{AllGood, Passed, another, given_passed, its_own, level_checked, level_fit}

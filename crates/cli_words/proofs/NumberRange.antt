@@ -1,5 +1,5 @@
 -- The numbers that a reading answers are in the ranges of their options: the parsers take no others.
-use Rattle.std.proofs.Common.{◌≡◌, ◌≤◌, ◌<◌, ◌⊎◌, inl, inr, ℕ, Bool, cond, true, false, codes, refl, sym, ◌∙◌, nat_lt, true≢false, subst, arith, List, []}
+use Rattle.std.proofs.Common.{◌≡◌, ◌≤◌, ◌<◌, ◌⊎◌, inl, inr, ℕ, Bool, cond, true, false, codes, refl, sym, subst, arith, List, []}
 use Rattle.std.proofs.Common.{◌∷◌, Option}
 use Rattle.std.proofs.Common.{Some, None, Result, Ok, Err}
 use Rattle.std.specs.Borrow.{Bor}
@@ -12,9 +12,7 @@ use Rattle.clap.specs.Lexer.{without_minus}
 use Rattle.clap.specs.Simple.{argument_words, built, matches_of, names_of}
 use Rattle.clap.specs.Values.{IsSignedIn, IsUnsignedIn, read_as}
 use Rattle.clap.specs.ValueTests.{accepts, is_unsigned_in}
-use Rattle.clap.specs.Walk.{Row, Rule, Text, action_of, first_of, nothing_held, row_text}
-use Rattle.clap.specs.Facts.{parser_of_value, unwrap_or_range}
-use Rattle.clap.specs.declared.builder.action.ArgAction.TheVariants.{Set}
+use Rattle.clap.specs.Walk.{Row, Text, first_of, nothing_held, row_text}
 use Rattle.clap.specs.declared.builder.value_parser.Reading.{Reading}
 use Rattle.clap.specs.declared.builder.value_parser.Reading.TheVariants.{WithoutMinus}
 use Rattle.clap.specs.declared.builder.value_parser.ValueParser.{ValueParser}
@@ -25,7 +23,7 @@ use Rattle.clap.proofs.ValueTestLemmas.{accepts-Accepts}
 use Rattle.cli_words.specs.declared.limits.TheConstants.{DEFAULT_NODES, DEFAULT_ROOM, DEFAULT_SIZE, FEWEST_MADE_NODES, LEAST_ROOM, MOST_MADE_NODES}
 use Rattle.cli_words.specs.declared.limits.TheConstants.{MOST_ROOM, MOST_SIZE, DEFAULT_DRAWN, MOST_DRAWN}
 use Rattle.cli_words.specs.declared.mode.Mode.{Mode}
-use Rattle.cli_words.specs.declared.mode.Mode.TheVariants.{Play, Run, Big, Trace, TraceRun, Check, Points, Large, Messages, Groups, Draw, OneNode}
+use Rattle.cli_words.specs.declared.mode.Mode.TheVariants.{Play, Run, Big, Check, Points, Large, Messages, Groups, Draw, OneNode}
 use Rattle.cli_words.specs.declared.mode.WordFault.{WordFault}
 use Rattle.cli_words.specs.declared.mode.WordFault.TheVariants.{OutOfMemory}
 use Rattle.cli_words.specs.declared.modes.Options.{Options}

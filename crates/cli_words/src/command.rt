@@ -1,9 +1,10 @@
 //! The command line as `clap` is told it.
 
-ghost use Rattle.std.specs.Prelude.{◌≡◌, false, codes, IfOk, IfErr};
+ghost use Rattle.std.specs.Prelude.{◌≡◌, false, codes, pos, IfOk, IfErr};
 ghost use Rattle.clap.specs.Words.{app_of, rule_of};
 ghost use Rattle.clap.specs.Simple.{new_app};
-ghost use Rattle.cli_words.specs.Command.{IsCommand, AreModes, without_help, mode_rule, nodes_rule, seed_rule, room_rule, size_rule, from_rule, entries_rule, threads_rule};
+ghost use Rattle.clap.specs.declared.builder.value_parser.ValueParser.TheVariants.{Signed, Unsigned};
+ghost use Rattle.cli_words.specs.Command.{IsCommand, AreModes, without_help, mode_rule, option_rule, threads_rule};
 
 use crate::limits::{
     DEFAULT_DRAWN_TEXT, DEFAULT_FROM_TEXT, DEFAULT_NODES_TEXT, DEFAULT_ROOM_TEXT,
@@ -25,78 +26,28 @@ fn mode_arg<'a>(alloc: Global) -> Arg<'a>
         .value_parser(MODES.as_slice())
 }
 
-/// How many nodes a made scenario has.
-fn nodes_arg<'a>(alloc: Global) -> Arg<'a>
-    ensures rule { rule_of result ≡ nodes_rule }
+/// An option whose value is a number from the least to the most, with the text that stands where it is not given.
+fn u32_arg<'a>(alloc: Global, name: &'a str, least: u32, most: u32, otherwise: &'a str) -> Arg<'a>
+    ensures rule { rule_of result ≡ option_rule name.now (Signed (pos least) (pos most)) otherwise.now }
     ensures local { result.global ≡ false }
 {
-    Arg::new(alloc, "nodes")
-        .long("nodes")
+    Arg::new(alloc, name)
+        .long(name)
         .action(ArgAction::Set)
-        .value_parser(value_parser!(u32).range(
-            i64::from(FEWEST_MADE_NODES)..=i64::from(MOST_MADE_NODES),
-        ))
-        .default_value(DEFAULT_NODES_TEXT)
+        .value_parser(value_parser!(u32).range(i64::from(least)..=i64::from(most)))
+        .default_value(otherwise)
 }
 
-/// The seed of a made scenario.
-fn seed_arg<'a>(alloc: Global) -> Arg<'a>
-    ensures rule { rule_of result ≡ seed_rule }
+/// An option whose value is any number below 2^64.
+fn u64_arg<'a>(alloc: Global, name: &'a str, otherwise: &'a str) -> Arg<'a>
+    ensures rule { rule_of result ≡ option_rule name.now (Unsigned 0 18446744073709551615) otherwise.now }
     ensures local { result.global ≡ false }
 {
-    Arg::new(alloc, "seed")
-        .long("seed")
+    Arg::new(alloc, name)
+        .long(name)
         .action(ArgAction::Set)
         .value_parser(value_parser!(u64))
-        .default_value(DEFAULT_SEED_TEXT)
-}
-
-/// How many files an access point remembers.
-fn room_arg<'a>(alloc: Global) -> Arg<'a>
-    ensures rule { rule_of result ≡ room_rule }
-    ensures local { result.global ≡ false }
-{
-    Arg::new(alloc, "room")
-        .long("room")
-        .action(ArgAction::Set)
-        .value_parser(value_parser!(u32).range(i64::from(LEAST_ROOM)..=i64::from(MOST_ROOM)))
-        .default_value(DEFAULT_ROOM_TEXT)
-}
-
-/// How many bytes a large file has.
-fn size_arg<'a>(alloc: Global) -> Arg<'a>
-    ensures rule { rule_of result ≡ size_rule }
-    ensures local { result.global ≡ false }
-{
-    Arg::new(alloc, "size")
-        .long("size")
-        .action(ArgAction::Set)
-        .value_parser(value_parser!(u32).range(0..=i64::from(MOST_SIZE)))
-        .default_value(DEFAULT_SIZE_TEXT)
-}
-
-/// The first entry that is drawn.
-fn from_arg<'a>(alloc: Global) -> Arg<'a>
-    ensures rule { rule_of result ≡ from_rule }
-    ensures local { result.global ≡ false }
-{
-    Arg::new(alloc, "from")
-        .long("from")
-        .action(ArgAction::Set)
-        .value_parser(value_parser!(u64))
-        .default_value(DEFAULT_FROM_TEXT)
-}
-
-/// How many entries are drawn.
-fn entries_arg<'a>(alloc: Global) -> Arg<'a>
-    ensures rule { rule_of result ≡ entries_rule }
-    ensures local { result.global ≡ false }
-{
-    Arg::new(alloc, "entries")
-        .long("entries")
-        .action(ArgAction::Set)
-        .value_parser(value_parser!(u32).range(0..=i64::from(MOST_DRAWN)))
-        .default_value(DEFAULT_DRAWN_TEXT)
+        .default_value(otherwise)
 }
 
 /// Whether a trace is that of a run by threads.
@@ -125,12 +76,18 @@ pub(crate) fn command<'a>(alloc: Global) -> Result<Command<'a>, WordFault>
 {
     let command = bare_command(alloc)
         .arg(mode_arg(alloc))?
-        .arg(nodes_arg(alloc))?
-        .arg(seed_arg(alloc))?
-        .arg(room_arg(alloc))?
-        .arg(size_arg(alloc))?
-        .arg(from_arg(alloc))?
-        .arg(entries_arg(alloc))?
+        .arg(u32_arg(
+            alloc,
+            "nodes",
+            FEWEST_MADE_NODES,
+            MOST_MADE_NODES,
+            DEFAULT_NODES_TEXT,
+        ))?
+        .arg(u64_arg(alloc, "seed", DEFAULT_SEED_TEXT))?
+        .arg(u32_arg(alloc, "room", LEAST_ROOM, MOST_ROOM, DEFAULT_ROOM_TEXT))?
+        .arg(u32_arg(alloc, "size", 0, MOST_SIZE, DEFAULT_SIZE_TEXT))?
+        .arg(u64_arg(alloc, "from", DEFAULT_FROM_TEXT))?
+        .arg(u32_arg(alloc, "entries", 0, MOST_DRAWN, DEFAULT_DRAWN_TEXT))?
         .arg(threads_arg(alloc))?;
     Ok(command)
 }

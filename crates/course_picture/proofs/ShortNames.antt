@@ -15,7 +15,7 @@ use Rattle.svg_text.specs.Labels.{short_of}
 use Rattle.trace_text.specs.Digits.{is_lower_digit}
 use Rattle.trace_text.proofs.Bytes.{id_bytes}
 use Rattle.trace_text.proofs.Digits.{encoded_lower}
-use Rattle.trace_text.proofs.Tables.{all_below-at}
+use Rattle.text_writer.proofs.Tables.{all_below-at}
 
 digit_small : (digit : ℕ) → is_lower_digit digit ≡ true → digit < 103
 digit_small digit h = grind (arith, nat_tests, h)

@@ -1,6 +1,6 @@
 -- Misses are counted entry by entry.
 use Rattle.std.proofs.Common.{◌≡◌, ◌≤◌, ℕ, ◌+◌, Bool, true, false, cond, if◌then◌else◌, is_some, option_map, Option, Some, None, List, [], ◌∷◌, count_by}
-use Rattle.std.proofs.Common.{length, slice_get, take, refl, ap, ◌∙◌, arith}
+use Rattle.std.proofs.Common.{slice_get, take, refl, ap, ◌∙◌, arith}
 use Rattle.std.proofs.lemmas.List.{length-take}
 use Rattle.std.proofs.lemmas.List.Sums.{count_by-le-length, sum_by-append, sum_by-cons}
 use Rattle.overlay_rules.specs.declared.entry.Entry.{Entry}

@@ -5,7 +5,7 @@ use Rattle.std.proofs.Common.{refl, sym, ◌∙◌, ap, arith}
 use Rattle.std.specs.Borrow.{Bor}
 use Rattle.std.specs.Option.{option_or, option_copied}
 use Rattle.std.proofs.lemmas.List.{at_drop_more}
-use Rattle.ring_math.specs.Names.{Number, Content}
+use Rattle.ring_math.specs.Names.{Content}
 use Rattle.wire_msg.specs.declared.reply.Answer.{Answer}
 use Rattle.scenario_reader.specs.declared.node.NodeLine.{NodeLine}
 use Rattle.overlay_rules.proofs.Prefixes.{take-next}

@@ -1,5 +1,5 @@
 -- Turns that were taken one after another lead to the end of the play.
-use Rattle.std.proofs.Common.{◌≡◌, ◌<◌, ℕ, Option, Some, None, List, [], length, refl, sym, subst, ap, ◌∙◌, arith}
+use Rattle.std.proofs.Common.{◌≡◌, ◌<◌, ℕ, Option, Some, None, List, [], length, refl, sym, subst, ap, ◌∙◌}
 use Rattle.ring_math.specs.Names.{FileId, Content}
 use Rattle.overlay_rules.specs.declared.entry.Entry.{Entry}
 use Rattle.overlay_rules.specs.Played.{Action as Act, oldest_undelivered}

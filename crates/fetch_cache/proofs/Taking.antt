@@ -1,5 +1,5 @@
 -- A turn that was taken with access points: the play has come as far as the cursor behind it.
-use Rattle.std.proofs.Common.{◌≡◌, ◌≢◌, ◌≤◌, inl, inr, ℕ, ◌+◌, Bool, true, false, Result, Ok, Err, IfOk, OnOk, Option, Some, None, List, [], ◌∷◌, ◌++◌, refl}
+use Rattle.std.proofs.Common.{◌≡◌, ◌≢◌, ◌≤◌, inl, inr, ◌+◌, Bool, true, false, Result, Ok, Err, IfOk, OnOk, Option, Some, None, List, [], ◌∷◌, ◌++◌, refl}
 use Rattle.std.proofs.Common.{sym, subst, ap, ◌∙◌, arith}
 use Rattle.ring_math.specs.Names.{FileId, Content}
 use Rattle.overlay_rules.specs.declared.entry.Entry.{Entry}
@@ -20,8 +20,8 @@ use Rattle.world_model.specs.Recorded.{world_of}
 use Rattle.world_model.proofs.Newest.{newest_more}
 use Rattle.play_engine.specs.Advance.{next_turn, IsNext, moved_to, progress_after}
 use Rattle.play_engine.specs.Coming.{is_some}
-use Rattle.play_engine.specs.Progress.{Progress, PlaysOn, play_in, left_in, draws, commands_before}
-use Rattle.play_engine.proofs.Going.{past_of, plays_on_after, play_goes, skips_after, advanced}
+use Rattle.play_engine.specs.Progress.{Progress, PlaysOn, play_in, draws, commands_before}
+use Rattle.play_engine.proofs.Going.{past_of, plays_on_after, play_goes, skips_after}
 use Rattle.play_engine.proofs.Numbers.{commands_rise}
 use Rattle.play_engine.proofs.Wholes.{not_ends as turn_not_ends, ends as turn_ends}
 use Rattle.fetch_cache.specs.declared.fetch.Fetch.{Fetch}

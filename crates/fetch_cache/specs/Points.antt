@@ -1,5 +1,5 @@
 -- Access points: what each node's remembers, the file used last first.
-use Rattle.std.specs.Prelude.{◌≡◌, ◌≢◌, ◌<◌, ℕ, ◌==◌, nat_eq, length, slice_index_or, Bool, if◌then◌else◌, Option, Some, None, List, [], ◌∷◌, map}
+use Rattle.std.specs.Prelude.{◌≡◌, ◌≢◌, ◌<◌, ℕ, ◌==◌, nat_eq, length, slice_index_or, Bool, if◌then◌else◌, Option, None, List, [], ◌∷◌, map}
 use Rattle.std.specs.Map.{lookup}
 use lib.Pointwise.{pointwise}
 use Rattle.lru.specs.LruCache.{lru_cache, promoted, put_entries}

@@ -1,5 +1,5 @@
 -- The report of a scenario that was played with access points.
-use Rattle.std.specs.Prelude.{ℕ, suc, ◌==◌, Bool, true, false, is_some, if◌then◌else◌, Option, Some, None, List, [], ◌∷◌, ◌++◌, length, count_by, codes}
+use Rattle.std.specs.Prelude.{ℕ, suc, ◌==◌, Bool, is_some, if◌then◌else◌, Option, Some, None, List, [], ◌∷◌, ◌++◌, length, count_by, codes}
 use Rattle.std.specs.Prelude.{decimal}
 use Rattle.ring_math.specs.Names.{Number, Content}
 use Rattle.wire_msg.specs.declared.reply.Answer.{Answer}

@@ -1,5 +1,5 @@
 -- One turn of a schedule that is played with access points.
-use Rattle.std.specs.Prelude.{ℕ, zero, suc, Option, Some, None, List, [], ◌∷◌, ◌++◌, slice_get, option_map, option_and_then}
+use Rattle.std.specs.Prelude.{zero, suc, Option, Some, None, List, [], ◌∷◌, ◌++◌, slice_get, option_map, option_and_then}
 use Rattle.ring_math.specs.Names.{Id, Number, FileId, Content}
 use Rattle.wire_msg.specs.declared.command.Command.{Command}
 use Rattle.wire_msg.specs.declared.command.Command.TheVariants as command

@@ -1,6 +1,6 @@
 -- A scenario's commands are numbered, and the list of what they fetch has each at its number.
-use Rattle.std.proofs.Common.{◌≡◌, ℕ, zero, suc, ◌+◌, Option, Some, None, List, [], ◌∷◌, ◌++◌, Contains, length, slice_get, option_and_then, refl, sym, subst}
-use Rattle.std.proofs.Common.{ap, ◌∙◌, append_assoc, append-nil, length-append, arith}
+use Rattle.std.proofs.Common.{◌≡◌, suc, ◌+◌, Option, Some, None, List, [], ◌∷◌, ◌++◌, Contains, length, option_and_then, refl, sym, subst}
+use Rattle.std.proofs.Common.{ap, ◌∙◌, append_assoc, length-append, arith}
 use Rattle.std.proofs.lemmas.List.Elements.{Contains-append_right}
 use Rattle.lru.proofs.Pairs.{slice_get-cut}
 use Rattle.ring_math.specs.Names.{FileId}

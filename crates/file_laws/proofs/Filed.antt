@@ -1,16 +1,15 @@
 -- The files of a large scenario are the pieces of its file: the fragments, and behind them the index.
-use Rattle.std.proofs.Common.{◌≡◌, ◌<◌, ◌≤◌, ℕ, zero, suc, ◌+◌, ◌*◌, List, [], ◌∷◌, ◌++◌, codes, get_or, length, refl, ap, ◌∙◌, arith}
+use Rattle.std.proofs.Common.{◌≡◌, ◌<◌, ◌≤◌, ℕ, zero, suc, ◌+◌, ◌*◌, List, [], ◌∷◌, codes, get_or, length, refl, ap, ◌∙◌, arith}
 use Rattle.std.specs.Int.{div_ceil}
 use Rattle.std.proofs.lemmas.Grind.{div_ceil_times}
 use Rattle.std.proofs.lemmas.List.{get_or_append_left, length-take}
 use Rattle.rand_chacha.specs.ChaCha.{ChaCha, next_word}
-use Rattle.ring_math.specs.Names.{Content}
 use Rattle.schedule.specs.declared.file.MadeFile.{MadeFile}
 use Rattle.schedule.specs.Making.{file_at, no_file}
 use Rattle.schedule.specs.Words.{bytes_of, stream_bytes, stream_start, words_to_come}
 use Rattle.fragments.specs.declared.piece.Piece.{Piece}
 use Rattle.fragments.specs.declared.piece.Pieces.{Pieces}
-use Rattle.fragments.specs.Large.{declared, declared_from, fragment_label, generated_bytes, large_making}
+use Rattle.fragments.specs.Large.{declared, declared_from, generated_bytes, large_making}
 
 -- ---- the fragments
 

@@ -1,16 +1,14 @@
 -- What the closings of a large scenario's commands show of its file.
-use Rattle.std.proofs.Common.{◌≡◌, ◌<◌, ◌≤◌, ℕ, zero, suc, ◌+◌, ◌-◌, Bool, true, false, if◌then◌else◌, Option, Some, None, is_none, option_map, List, [], ◌∷◌}
+use Rattle.std.proofs.Common.{◌≡◌, ◌<◌, ◌≤◌, ℕ, zero, suc, ◌+◌, ◌-◌, true, false, Option, Some, None, is_none, option_map, List, [], ◌∷◌}
 use Rattle.std.proofs.Common.{◌++◌}
-use Rattle.std.proofs.Common.{All, Contains, length, take, drop, get_or, map, refl, sym, subst, ap, ◌∙◌, append_assoc, length-append, take-append-drop, arith}
+use Rattle.std.proofs.Common.{All, Contains, length, drop, get_or, map, refl, sym, subst, ap, ◌∙◌, append_assoc, length-append, arith}
 use Rattle.std.specs.List.{flat_map, range_with_len}
 use Rattle.std.specs.Option.{option_or}
 use Rattle.std.proofs.lemmas.List.{get_or-append-add, get_or_append_left, get_or-drop, get_or-take, length-take, length-drop, length-map, ext_get_or}
 use Rattle.std.proofs.lemmas.List as list
-use Rattle.std.proofs.lemmas.List.Concat.{flat_map-append}
-use Rattle.std.proofs.lemmas.List.Elements.{Contains-append_left}
 use Rattle.std.proofs.lemmas.List.FromFn.{get_or-map-range_with_len, length-map-range_with_len}
 use Rattle.std.proofs.lemmas.Option.{get_or_from_slice_get}
-use Rattle.ring_math.specs.Names.{FileId, Content, Number}
+use Rattle.ring_math.specs.Names.{FileId, Content}
 use Rattle.wire_msg.specs.declared.command.Command.{Command as NodeCommand}
 use Rattle.wire_msg.specs.declared.command.Command.TheVariants as command
 use Rattle.wire_msg.specs.declared.note.Note.{Note}
@@ -19,30 +17,26 @@ use Rattle.wire_msg.specs.declared.reply.Answer.TheVariants as answer
 use Rattle.wire_msg.specs.declared.reply.Reply.{Reply}
 use Rattle.wire_msg.specs.declared.reply.Reply.TheVariants as reply
 use Rattle.overlay_rules.specs.declared.entry.Entry.{Entry}
-use Rattle.overlay_rules.specs.declared.entry.Event.{Event}
 use Rattle.overlay_rules.specs.Record.{Setting, IsRecord}
 use Rattle.overlay_rules.specs.Rightly.{NotesAreRight, RightReply}
-use Rattle.overlay_rules.specs.Table.{Keeps, accepted_in, notes_in, table, table_of}
+use Rattle.overlay_rules.specs.Table.{Keeps, accepted_in, notes_in, table}
 use Rattle.overlay_rules.proofs.Each.{Each, Each-contains}
 use Rattle.scenario_reader.specs.Plain.{PlainScenario}
 use Rattle.schedule.specs.declared.task.Task.{Task}
-use Rattle.schedule.specs.Making.{Making, file_at, scenario_of}
+use Rattle.schedule.specs.Making.{Making, file_at}
 use Rattle.schedule.specs.Plan.{join_plan}
 use Rattle.schedule.specs.Schedule.{play_of, setting_of}
 use Rattle.delivery_report.specs.Answers.{found_by}
 use Rattle.delivery_report.specs.Report.{closing_of, closings_from, closings_of}
 use Rattle.delivery_report.specs.Texts.{commands_of}
-use Rattle.table_laws.proofs.Tables.{accepted-more, keeps_parts}
-use Rattle.fragments.specs.declared.fault.JoinFault.{JoinFault}
 use Rattle.fragments.specs.declared.piece.Piece.{Piece}
 use Rattle.fragments.specs.declared.piece.Pieces.{Pieces}
 use Rattle.fragments.specs.Joined.{all_found, first_from, fragment_fault, is_missing, join_fault, joined, stated_size}
 use Rattle.fragments.specs.Large.{generated, generated_bytes, large, large_making, large_plan, retrieve_tasks, store_tasks}
-use Rattle.fragments.specs.Pieces.{LargeFile, fragment, fragment_count, fragments_of, pieces_of}
+use Rattle.fragments.specs.Pieces.{LargeFile, fragment, fragment_count, pieces_of}
 use Rattle.fragments.proofs.Returning.{comes_back}
 use Rattle.large_report.specs.Large.{is_whole, retrieved}
 use Rattle.file_laws.specs.Given.{IsGiven, WasStored, storings}
-use Rattle.file_laws.proofs.Commanded.{OfAll}
 use Rattle.file_laws.proofs.Filed.{fragment_at, generated_long}
 use Rattle.file_laws.proofs.Numbered.{IsAt, IsNumbered, commands_counted, commands_in, commands_in-append, commands_in-each, play_numbered}
 use Rattle.file_laws.proofs.Told.{IsTold, accepted_whole, closing_tells, in_whole}

@@ -1,14 +1,13 @@
 -- What points remember was found at their nodes, and so what hits give: turn by turn, through the whole play.
-use Rattle.std.proofs.Common.{◌≡◌, ◌<◌, ◌≤◌, ℕ, zero, suc, ◌+◌, ◌==◌, nat_lt, Bool, true, false, if◌then◌else◌, Option, Some, None, List, [], ◌∷◌, ◌++◌}
-use Rattle.std.proofs.Common.{All, Contains, length, replicate, slice_get, take, map, option_and_then, option_map, refl, sym, subst, ap, ◌∙◌, ◌⊎◌, inl, inr}
-use Rattle.std.proofs.Common.{append_assoc, append-nil, length-append, arith}
+use Rattle.std.proofs.Common.{◌≡◌, ◌<◌, ℕ, zero, suc, ◌+◌, ◌==◌, nat_lt, Bool, true, false, if◌then◌else◌, Option, Some, None, List, [], ◌∷◌, ◌++◌}
+use Rattle.std.proofs.Common.{All, Contains, length, replicate, take, option_map, refl, sym, subst, ap, ◌∙◌, ◌⊎◌, inl, inr}
+use Rattle.std.proofs.Common.{arith}
 use Rattle.std.specs.Map.{lookup}
 use Rattle.std.proofs.lemmas.Bool.{eqb-true}
 use Rattle.std.proofs.lemmas.List.{take-append-le, take_all}
-use Rattle.std.proofs.lemmas.List.Elements.{Contains-append_left}
 use Rattle.std.proofs.lemmas.Option.{slice_get_within}
 use Rattle.std.proofs.lemmas.Slice.Eq.{bytes_eq-Decides}
-use Rattle.lru.specs.LruCache.{lru_cache, promoted, put_entries}
+use Rattle.lru.specs.LruCache.{lru_cache}
 use Rattle.lru.proofs.CallerLemmas.{Contains-lookup, Contains-promoted, Contains-put_entries}
 use Rattle.lru.proofs.Pairs.{slice_get-cut}
 use Rattle.ring_math.specs.Names.{Id, Number, FileId, Content}
@@ -18,7 +17,6 @@ use Rattle.wire_msg.specs.declared.note.Note.{Note}
 use Rattle.wire_msg.specs.declared.note.Note.TheVariants as note
 use Rattle.wire_msg.specs.declared.reply.Answer.{Answer}
 use Rattle.wire_msg.specs.declared.reply.Answer.TheVariants as answer
-use Rattle.wire_msg.specs.declared.reply.Reply.{Reply}
 use Rattle.wire_msg.specs.declared.reply.Reply.TheVariants as reply
 use Rattle.overlay_rules.specs.declared.entry.Entry.{Entry}
 use Rattle.overlay_rules.specs.declared.entry.Event.{Event}
@@ -27,12 +25,12 @@ use Rattle.overlay_rules.specs.Played.{Action as Act, Command, Settle, Deliver, 
 use Rattle.overlay_rules.specs.Record.{World, Visit, visit, sent_in}
 use Rattle.overlay_rules.proofs.Each.{Each, Each-all, Each-append, Each-itself, Each-take, Each-weaker}
 use Rattle.overlay_rules.proofs.OneMore.{slice_get-more}
-use Rattle.schedule.specs.Turns.{Step, Happens, Skips, Ends, Turned, delivery, turned, turn_in, play_after}
+use Rattle.schedule.specs.Turns.{Step, Happens, Skips, Ends, Turned, delivery, turned, turn_in}
 use Rattle.delivery_report.specs.Answers.{found_in}
 use Rattle.fetch_cache.specs.declared.hit.Hit.{Hit}
 use Rattle.fetch_cache.specs.Points.{Point, asked, changed_at, remembered, same_file, told}
 use Rattle.fetch_cache.specs.Run.{LeadsTo, AtEnd, Onward}
-use Rattle.fetch_cache.specs.Turns.{PointPlay, answered_turn, fetch_in, fetch_of, fetched, fetched_by, hit_turn, made_turn, point_turn, told_at, told_by}
+use Rattle.fetch_cache.specs.Turns.{PointPlay, answered_turn, fetch_in, fetched, fetched_by, hit_turn, made_turn, point_turn, told_at, told_by}
 use Rattle.fetch_cache.specs.Turns.{told_by_all}
 use Rattle.fetch_cache.specs.Turns.{told_entry, told_found, turn_by}
 use Rattle.file_laws.specs.Hits.{FindsAt, IsBefore}

@@ -1,5 +1,5 @@
 -- Pieces that were stored and found again have the bytes that they were stored with.
-use Rattle.std.proofs.Common.{◌≡◌, ◌≤◌, Some, None, List, [], ◌∷◌, length, map, refl, ap, ap₂, ◌∙◌, arith}
+use Rattle.std.proofs.Common.{◌≡◌, ◌≤◌, Some, List, [], ◌∷◌, length, map, refl, ap, ◌∙◌}
 use Rattle.ring_math.specs.Names.{Content}
 use Rattle.wire_msg.specs.declared.command.Command.TheVariants as command
 use Rattle.overlay_rules.specs.declared.entry.Entry.{Entry}
@@ -8,7 +8,7 @@ use Rattle.fragments.specs.declared.piece.Piece.{Piece}
 use Rattle.fragments.specs.Joined.{join_fault, joined, all_found}
 use Rattle.fragments.specs.Pieces.{LargeFile, fragments_of, index_of, pieces_of}
 use Rattle.fragments.proofs.Returning.{comes_back}
-use Rattle.file_laws.specs.Stored.{IsKept, AreKept, AreJoined, ComesBackFrom}
+use Rattle.file_laws.specs.Stored.{IsKept, AreKept, ComesBackFrom}
 
 one_kept : (es : List Entry) → StoredStays es → (p : Piece) (bytes : Content) → IsKept es p bytes → bytes ≡ p.bytes
 one_kept es stays p bytes h =

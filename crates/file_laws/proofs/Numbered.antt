@@ -1,12 +1,11 @@
 -- The commands of a made scenario, by their numbers.
-use Rattle.std.proofs.Common.{◌≡◌, ℕ, ◌+◌, ◌*◌, Some, List, [], ◌∷◌, ◌++◌, length, map, slice_get, refl, sym, subst, ap, ◌∙◌, append_assoc, length-append}
+use Rattle.std.proofs.Common.{◌≡◌, ℕ, ◌+◌, ◌*◌, Some, List, [], ◌∷◌, ◌++◌, length, map, slice_get, refl, sym, ap, ◌∙◌, append_assoc, length-append}
 use Rattle.std.proofs.Common.{arith}
-use Rattle.std.specs.List.{flat_map, range_with_len}
+use Rattle.std.specs.List.{flat_map}
 use Rattle.lru.proofs.Pairs.{slice_get-cut}
-use Rattle.ring_math.specs.Names.{Id, Number}
+use Rattle.ring_math.specs.Names.{Number}
 use Rattle.wire_msg.specs.declared.command.Command.{Command as NodeCommand}
 use Rattle.wire_msg.specs.declared.command.Command.TheVariants as command
-use Rattle.overlay_rules.specs.declared.entry.Entry.{Entry}
 use Rattle.overlay_rules.specs.declared.entry.Event.{Event}
 use Rattle.overlay_rules.specs.declared.entry.Event.TheVariants as event
 use Rattle.overlay_rules.proofs.Each.{Each}

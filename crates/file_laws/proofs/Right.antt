@@ -1,10 +1,8 @@
 -- The hits of a play with access points are right: what was found is what was first accepted.
-use Rattle.std.proofs.Common.{◌≡◌, ℕ, Option, Some, None, List, [], ◌∷◌, All, Contains, take, refl, sym, subst, ap, ◌∙◌, arith}
+use Rattle.std.proofs.Common.{◌≡◌, ℕ, Option, Some, List, [], ◌∷◌, Contains, take, refl, sym, subst, ap, ◌∙◌, arith}
 use Rattle.ring_math.specs.Names.{Id, Number, FileId, Content}
 use Rattle.wire_msg.specs.declared.command.Command.{Command as NodeCommand}
 use Rattle.wire_msg.specs.declared.command.Command.TheVariants as command
-use Rattle.wire_msg.specs.declared.note.Note.TheVariants as note
-use Rattle.wire_msg.specs.declared.reply.Answer.TheVariants as answer
 use Rattle.wire_msg.specs.declared.reply.Reply.TheVariants as reply
 use Rattle.overlay_rules.specs.declared.entry.Entry.{Entry}
 use Rattle.overlay_rules.specs.Played.{Action as Act}
@@ -16,9 +14,9 @@ use Rattle.scenario_reader.specs.Plain.{PlainScenario, ids}
 use Rattle.scenario_reader.specs.Rules.{KeepsRules}
 use Rattle.schedule.specs.Schedule.{acts_of, setting_of}
 use Rattle.fetch_cache.specs.declared.hit.Hit.{Hit}
-use Rattle.fetch_cache.specs.Points.{Point, points_at_start}
+use Rattle.fetch_cache.specs.Points.{points_at_start}
 use Rattle.fetch_cache.specs.Run.{IsPointRun, start_of}
-use Rattle.fetch_cache.specs.Turns.{PointPlay, fetched, fetched_by, fetches_of}
+use Rattle.fetch_cache.specs.Turns.{fetched, fetched_by, fetches_of}
 use Rattle.file_laws.specs.Hits.{AreRightHits, FindsAt, IsRight}
 use Rattle.file_laws.proofs.Fetched.{scenario_numbered}
 use Rattle.file_laws.proofs.Hitting.{Holds, HoldsAtEnd, IsHit, IsListed, Remembers, run_holds}

@@ -1,9 +1,9 @@
 -- The large scenario keeps the rules of scenarios: the names of its files differ, and its tasks are within the limits.
-use Rattle.std.proofs.Common.{◌≡◌, ◌≢◌, ◌<◌, ◌≤◌, ℕ, zero, suc, ◌+◌, ◌-◌, ◌*◌, true, IsTrue, List, [], ◌∷◌, ◌++◌, length, length-append, codes}
-use Rattle.std.proofs.Common.{decimal, map, get_or, replicate, All, AllPairs}
+use Rattle.std.proofs.Common.{◌≡◌, ◌≢◌, ◌<◌, ◌≤◌, ℕ, suc, ◌+◌, ◌-◌, ◌*◌, true, IsTrue, List, [], ◌∷◌, ◌++◌, length, length-append, codes}
+use Rattle.std.proofs.Common.{map, get_or, replicate, AllPairs}
 use Rattle.std.proofs.Common.{refl, sym, subst, ap, ◌∙◌, zero-add, arith, add-one, append_assoc, append-nil, drop, drop-cons}
-use Rattle.std.specs.List.{flat_map, range_with_len, AllByRecursion}
-use Rattle.std.proofs.lemmas.List.{map-append, length-map, length-take, drop_all}
+use Rattle.std.specs.List.{flat_map, range_with_len}
+use Rattle.std.proofs.lemmas.List.{map-append, length-take, drop_all}
 use Rattle.std.proofs.lemmas.List.FromFn.{length-map-range_with_len, length-range_with_len, get_or-map-range_with_len}
 use Rattle.std.proofs.lemmas.List.Quantifiers.{all_pairs_push}
 use Rattle.overlay_rules.proofs.Each.{Each, Each-append}

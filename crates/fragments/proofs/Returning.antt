@@ -1,20 +1,19 @@
 -- What was cut is joined again: the index states what is so, each fragment has its size, and one behind the other they are the file.
-use Rattle.std.proofs.Common.{◌≡◌, ◌<◌, ◌≤◌, ℕ, zero, suc, ◌+◌, ◌-◌, ◌*◌, ◌/◌, ◌%◌, ◌^◌, min, Bool, true, false, not, if◌then◌else◌, Option, Some}
+use Rattle.std.proofs.Common.{◌≡◌, ◌<◌, ◌≤◌, ℕ, zero, suc, ◌+◌, ◌*◌, ◌^◌, min, Option, Some}
 use Rattle.std.proofs.Common.{None, List, [], ◌∷◌, ◌++◌}
-use Rattle.std.proofs.Common.{length, length-append, length-drop, map, take, drop, refl, sym, subst, ap, ◌∙◌, arith, append_assoc, le-ltb, eq-eqb}
-use Rattle.std.specs.Int.{w16, w32, to_be_bytes, from_be_bytes}
+use Rattle.std.proofs.Common.{length, length-append, length-drop, map, take, drop, refl, sym, ap, ◌∙◌, arith, le-ltb, eq-eqb}
+use Rattle.std.specs.Int.{w32, to_be_bytes}
 use Rattle.std.specs.List.{flat_map, range_with_len}
-use Rattle.std.proofs.lemmas.List.{length-take, take_all, take-append-drop, drop-take, length-map}
+use Rattle.std.proofs.lemmas.List.{length-take, take_all, length-map}
 use Rattle.std.proofs.lemmas.List.FromFn.{length-map-range_with_len, length-range_with_len}
 use Rattle.std.proofs.lemmas.Grind.{div_ceil_times}
 use Rattle.std.proofs.lemmas.Nat.{from_be_bytes-to_be_bytes_2, from_be_bytes-to_be_bytes_4}
 use Rattle.sha1.specs.Sha1.{sha1, digest_bytes}
 use Rattle.ring_math.specs.Keys.{file_of}
 use Rattle.ring_math.specs.Names.{FileId, Content}
-use Rattle.fragments.specs.declared.fault.JoinFault.{JoinFault}
 use Rattle.fragments.specs.declared.piece.Piece.{Piece}
 use Rattle.fragments.specs.Joined.{stated_size, stated_count, index_fault, count_fault, first_from, is_missing, fragment_size, has_other_size, fragment_fault}
-use Rattle.fragments.specs.Joined.{join_fault, bytes_in, joined, all_found, ComesBack}
+use Rattle.fragments.specs.Joined.{join_fault, joined, all_found, ComesBack}
 use Rattle.fragments.specs.Pieces.{LargeFile, fragment_count, fragment, fragments_of, index_bytes, pieces_of}
 
 -- ---- what an index states

@@ -12,7 +12,7 @@ use Rattle.schedule.specs.Words.{stream_bytes}
 use Rattle.ring_math.specs.Names.{Content}
 use Rattle.fragments.specs.declared.piece.Piece.{Piece}
 use Rattle.fragments.specs.declared.piece.Pieces.{Pieces}
-use Rattle.fragments.specs.Pieces.{LargeFile, fragment_count, pieces_of}
+use Rattle.fragments.specs.Pieces.{LargeFile, pieces_of}
 
 -- so many bytes of stream 1 of a seed's words
 abbrev pub generated_bytes : ℕ → ℕ → Content

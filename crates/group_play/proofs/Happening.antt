@@ -8,7 +8,7 @@ use Rattle.ring_math.specs.Names.{Id, Number}
 use Rattle.scribe_core.specs.declared.action.GroupAction.{GroupAction}
 use Rattle.scribe_core.specs.declared.action.GroupWhat.{GroupWhat}
 use Rattle.scribe_core.specs.declared.action.GroupWhat.TheVariants as what
-use Rattle.scribe_core.specs.declared.entry.GroupEntry.{GroupEntry}
+use Rattle.scribe_core.specs.Entry.{GroupEntry, Written}
 use Rattle.scribe_core.specs.declared.entry.GroupEvent.{GroupEvent}
 use Rattle.scribe_core.specs.declared.entry.GroupEvent.TheVariants as event
 use Rattle.scribe_core.specs.Actions.{AreActionsFrom, MayFollow, counted}
@@ -21,7 +21,7 @@ use Rattle.scribe_core.specs.Record.{sent_from, sent_in, step_at, visit}
 use Rattle.scribe_core.proofs.Kept.{past_of_run, run_push}
 use Rattle.world_model.specs.Recorded.{Recorded, setting_of, world_of}
 use Rattle.group_play.specs.declared.play.Play.{Play}
-use Rattle.group_play.specs.declared.said.Said.{Said}
+use Rattle.group_play.specs.Keys.{AreKeys}
 use Rattle.group_play.specs.Messages.{ListsMessages}
 use Rattle.group_play.specs.Playing.{CanAct, IsNewest, IsNumberedBelow, IsPlay}
 use Rattle.group_play.specs.Seats.{AreSeats, ShowParts, StepsTo}
@@ -36,53 +36,70 @@ legal_push g overlay w (d ∷ es) e l f = (l.0, legal_push g overlay (after over
 past_of : (overlay : World) (es : List GroupEntry) → (groups_in overlay es).past ≡ es
 past_of overlay es = past_of_run overlay no_groups es
 
-abbrev entry_said : GroupEvent → Said → GroupEntry
+-- where nothing was said before
+pub said_now : {A : Type 0} (before more now : List A) → now ≡ before ++ more → before ≡ [] → now ≡ more
+said_now before more now is none = is ∙ ap (λ xs. xs ++ more) none
+
+abbrev pub entry_said : GroupEvent → Written → GroupEntry
 entry_said v said = record { event = v; messages = said.messages; notes = said.notes }
 
-module _ (r : Recorded) (a b : Play) (v : GroupEvent) (at : Visit) (said : Said) (h : IsPlay r a) (comes : visit (sent_in a.entries) v ≡ Some at)
-    (steps : StepsTo (world_of r) b.seats (groups_in (world_of r) a.entries).parts at said)
-    (more : b.entries ≡ a.entries ++ entry_said v said ∷ []) where
+module _ (r : Recorded) (a b : Play) (v : GroupEvent) (at : Visit) (said : Written) (h : IsPlay r a) (comes : visit (sent_in a.writer.entries) v ≡ Some at)
+    (steps : StepsTo (world_of r) b.seats (groups_in (world_of r) a.writer.entries).parts at a.writer said)
+    (closes : b.writer.entries ≡ said.entries ++ entry_said v said ∷ []) where
   abbrev under : World
   under = world_of r
 
   abbrev w : Groups
-  w = groups_in under a.entries
+  w = groups_in under a.writer.entries
 
   there : visit (sent_in w.past) v ≡ Some at
-  there = ap (λ past. visit (sent_in past) v) (past_of under a.entries) ∙ comes
+  there = ap (λ past. visit (sent_in past) v) (past_of under a.writer.entries) ∙ comes
 
-  is_due : entry_said v said ≡ entry_at under a.entries v (visit (sent_in a.entries) v)
+  more : b.writer.entries ≡ a.writer.entries ++ entry_said v said ∷ []
+  more = closes ∙ ap (λ (es : List GroupEntry). es ++ entry_said v said ∷ []) steps.entries
+
+  sent_now : said.messages ≡ map (sent_from at.node at.group) (step_at under w at).sends
+  sent_now = said_now a.writer.messages _ said.messages steps.messages h.nothing_sent
+
+  noted_now : said.notes ≡ (step_at under w at).notes
+  noted_now = said_now a.writer.notes _ said.notes steps.notes h.nothing_noted
+
+  is_due : entry_said v said ≡ entry_at under a.writer.entries v (visit (sent_in a.writer.entries) v)
   is_due =
-      ap (λ ms. record { event = v; messages = ms; notes = said.notes }) steps.messages
-      ∙ ap (λ ns. record { event = v; messages = map (sent_from at.node at.group) (step_at under w at).sends; notes = ns }) steps.notes
-      ∙ ap (entry_at under a.entries v) (sym comes)
+      ap (λ ms. record { event = v; messages = ms; notes = said.notes }) sent_now
+      ∙ ap (λ ns. record { event = v; messages = map (sent_from at.node at.group) (step_at under w at).sends; notes = ns }) noted_now
+      ∙ ap (entry_at under a.writer.entries v) (sym comes)
 
   -- the record is the one in which the event happened
-  pub is_happened : b.entries ≡ happened under a.entries v
-  is_happened = more ∙ ap (λ d. a.entries ++ d ∷ []) is_due
+  pub is_happened : b.writer.entries ≡ happened under a.writer.entries v
+  is_happened = more ∙ ap (λ d. a.writer.entries ++ d ∷ []) is_due
 
-  parts_now : (groups_in under b.entries).parts ≡ part_at w.parts at.node at.group (step_at under w at).part
+  parts_now : (groups_in under b.writer.entries).parts ≡ part_at w.parts at.node at.group (step_at under w at).part
   parts_now =
-      ap (λ es. (groups_in under es).parts) more ∙ ap (λ (q : Groups). q.parts) (run_push under no_groups a.entries (entry_said v said))
+      ap (λ es. (groups_in under es).parts) more ∙ ap (λ (q : Groups). q.parts) (run_push under no_groups a.writer.entries (entry_said v said))
       ∙ ap (parts_after under w) there
 
-  follows : Contains r.nodes at.node → IsFresh a.entries v → Follows (setting_of r) under w (entry_said v said)
+  follows : Contains r.nodes at.node → IsFresh a.writer.entries v → Follows (setting_of r) under w (entry_said v said)
   follows member fresh = record {
     at = at;
     is_at = there;
     member = member;
-    fresh = subst (λ past. IsFresh past v) (sym (past_of under a.entries)) fresh;
-    messages = steps.messages;
-    notes = steps.notes;
+    fresh = subst (λ past. IsFresh past v) (sym (past_of under a.writer.entries)) fresh;
+    messages = sent_now;
+    notes = noted_now;
   }
 
-  pub still_plays : Contains r.nodes at.node → IsFresh a.entries v → AreSeats b.seats → ListsMessages b.messages b.entries → IsPlay r b
-  still_plays member fresh seats messages = record {
+  pub still_plays : Contains r.nodes at.node → IsFresh a.writer.entries v → AreKeys b.keys → AreSeats b.seats → ListsMessages b.messages b.writer.entries →
+      b.writer.messages ≡ [] → b.writer.notes ≡ [] → IsPlay r b
+  still_plays member fresh keys seats messages nothing_sent nothing_noted = record {
+    keys = keys;
     seats = seats;
     parts = subst (ShowParts b.seats) (sym parts_now) steps.shown;
     messages = messages;
     legal = subst (IsGroupRecord (setting_of r) under) (sym more)
-        (legal_push (setting_of r) under no_groups a.entries (entry_said v said) h.legal (follows member fresh));
+        (legal_push (setting_of r) under no_groups a.writer.entries (entry_said v said) h.legal (follows member fresh));
+    nothing_sent = nothing_sent;
+    nothing_noted = nothing_noted;
   }
 
 -- ---- numbers

@@ -1,16 +1,15 @@
 -- The seats of nodes in groups: how one is found, and what the parts that are kept there stand for.
-use Rattle.std.specs.Prelude.{◌≡◌, ◌≢◌, ◌<◌, ◌≤◌, ℕ, Option, Some, None, List, length, map, slice_index_or}
-use Rattle.std.specs.BTreeMap.{BTreeMap, get}
-use Rattle.std.specs.Ordering.{nat_cmp}
+use Rattle.std.specs.Prelude.{◌≡◌, ◌≢◌, ◌<◌, ◌≤◌, ℕ, Option, Some, None, List, ◌++◌, length, map, nat_eq, slice_index_or}
+use Rattle.std.specs.HashMap.{HashMap, get}
 use Rattle.overlay_rules.specs.Record.{World}
 use Rattle.ring_math.specs.Keys.{id_of}
 use Rattle.ring_math.specs.Names.{Id}
 use Rattle.ring_math.specs.Ring.{cw_of}
+use Rattle.scribe_core.specs.Entry.{Written}
 use Rattle.scribe_core.specs.Parts.{GroupName, Outcome, Part, no_part}
 use Rattle.scribe_core.specs.Record.{Visit, part_at, sent_from, way_in}
 use Rattle.scribe_core.specs.Step.{group_step}
 use Rattle.group_play.specs.declared.part.Part.{Part as KeptPart}
-use Rattle.group_play.specs.declared.said.Said.{Said}
 use Rattle.group_play.specs.declared.seats.Seat.{Seat}
 use Rattle.group_play.specs.declared.seats.Seats.{Seats}
 use Rattle.group_play.specs.Shown.{Stands}
@@ -30,8 +29,8 @@ IsLastOf seats n slot (Some k) =
     (k < n) × ((d : Seat) → slot_of (slice_index_or seats k d) ≡ slot) × ((j : ℕ) (d : Seat) → k < j → j < n → slot_of (slice_index_or seats j d) ≢ slot)
 
 -- the last seat of each number is known, and each seat knows the last one before it of its own
-pub record AreLinked (seats : List Seat) (lasts : BTreeMap ℕ ℕ) : Type 0 where
-  pub last : (slot : ℕ) → IsLastOf seats (length seats) slot (get nat_cmp lasts slot)
+pub record AreLinked {S : Type 0} (seats : List Seat) (lasts : HashMap ℕ ℕ S) : Type 0 where
+  pub last : (slot : ℕ) → IsLastOf seats (length seats) slot (get nat_eq lasts slot)
   pub before : (k : ℕ) (d : Seat) → k < length seats → IsLastOf seats k (slot_of (slice_index_or seats k d)) (slice_index_or seats k d).before
 
 -- each seat has its group's key
@@ -65,18 +64,13 @@ pub record ShowParts (a : Seats) (parts : Id → GroupName → Part) : Type 0 wh
       Stands (slice_index_or a.parts.items k e) (parts (slice_index_or a.items.items k d).node (slice_index_or a.items.items k d).group)
   pub others : (x : Id) (name : GroupName) → NoneFrom a.items.items 0 x name → parts x name ≡ no_part
 
--- a part came to be that of an outcome, and this was said at it
-pub record Answers (x : Id) (name : GroupName) (a : KeptPart) (said : Said) (o : Outcome) : Type 0 where
-  pub part : Stands a o.part
-  pub messages : said.messages ≡ map (sent_from x name) o.sends
-  pub notes : said.notes ≡ o.notes
-
 -- the step of a visit
 abbrev pub step_of : World → (Id → GroupName → Part) → Visit → Outcome
 step_of overlay parts v = group_step (way_in overlay v.node v.group) v.group (parts v.node v.group) v.input
 
--- the seats show the parts after the visit, and this was said at it
-pub record StepsTo (overlay : World) (a : Seats) (parts : Id → GroupName → Part) (v : Visit) (said : Said) : Type 0 where
+-- the seats show the parts after the visit, and the next entry sends and notes what its step does
+pub record StepsTo (overlay : World) (a : Seats) (parts : Id → GroupName → Part) (v : Visit) (old new : Written) : Type 0 where
   pub shown : ShowParts a (part_at parts v.node v.group (step_of overlay parts v).part)
-  pub messages : said.messages ≡ map (sent_from v.node v.group) (step_of overlay parts v).sends
-  pub notes : said.notes ≡ (step_of overlay parts v).notes
+  pub entries : new.entries ≡ old.entries
+  pub messages : new.messages ≡ old.messages ++ map (sent_from v.node v.group) (step_of overlay parts v).sends
+  pub notes : new.notes ≡ old.notes ++ (step_of overlay parts v).notes

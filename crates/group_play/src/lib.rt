@@ -5,12 +5,13 @@
 //! step has to be undone.
 #![tactic(auto)]
 
+mod keys;
 mod messages;
 mod part;
 mod play;
 mod rules;
-mod said;
 mod seats;
+mod spot;
 mod turn;
 mod way;
 

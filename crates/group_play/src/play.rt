@@ -1,6 +1,6 @@
 //! Actions played, one after another.
 
-ghost use Rattle.std.specs.Prelude.{◌≡◌, ◌<◌, ◌++◌, ◌∷◌, [], Contains, IfOk, IsSome, OnOk, Some, length};
+ghost use Rattle.std.specs.Prelude.{◌≡◌, ◌<◌, ◌++◌, ◌∷◌, [], Contains, IfOk, OnOk, length};
 ghost use Rattle.overlay_rules.specs.Record.{IsRecord};
 ghost use Rattle.scenario_reader.specs.Plain.{ids};
 ghost use Rattle.scribe_core.specs.declared.entry.GroupEvent.TheVariants as event;
@@ -9,18 +9,17 @@ ghost use Rattle.scribe_core.specs.Played.{acted, delivered_once, happened, play
 ghost use Rattle.scribe_core.specs.Record.{IsGroupRecord, sent_in};
 ghost use Rattle.world_model.specs.Index.{IsBelow};
 ghost use Rattle.world_model.specs.Recorded.{Recorded, setting_of, world_of};
-ghost use Rattle.group_play.specs.Messages.{HaveKey, ListsMessages, delivered_by, message_at};
+ghost use Rattle.group_play.specs.Messages.{HaveKey, ListsMessages, delivered_by};
 ghost use Rattle.group_play.specs.Playing.{CanAct, IsNewest, IsPlay};
 
-use crate::messages::{Listed, Messages};
-use crate::said::{Said, Spot};
+use crate::keys::GroupKeys;
+use crate::messages::Messages;
 use crate::seats::Seats;
+use crate::spot::Spot;
 use group_reader::GroupScript;
-use ring_math::{Id, OutOfMemory, id_of_name};
+use ring_math::{Id, OutOfMemory};
 use scenario_reader::Name;
-use scribe_core::{
-    GroupAction, GroupCommand, GroupEntry, GroupEvent, GroupRecord, GroupSent, GroupWhat,
-};
+use scribe_core::{GroupAction, GroupCommand, GroupEvent, GroupRecord, GroupWhat, GroupWriter};
 use std::alloc::Global;
 use world_model::World;
 
@@ -52,27 +51,29 @@ fn play_actions(
     for action in actions {
         play.act(alloc, world, &action.what)?;
     }
-    Ok(play.entries)
+    Ok(play.writer.finish())
 }
 
-/// Groups that are played: the record so far, where its messages stand, and the seats with the parts after it.
+/// Groups that are played: the record so far, what is kept of its messages, the seats with the parts after it, and keys.
 #[derive(Drop)]
 pub(crate) struct Play {
+    pub(crate) keys: GroupKeys,
     pub(crate) seats: Seats,
     pub(crate) messages: Messages,
-    pub(crate) entries: GroupRecord,
+    pub(crate) writer: GroupWriter,
 }
 
 impl Play {
     /// Nothing has happened. It takes no memory.
     fn new(alloc: Global) -> Play
         ensures plays { (r : Recorded) → IsPlay r result }
-        ensures entries { result.entries ≡ [] }
+        ensures entries { result.writer.entries ≡ [] }
     {
         Play {
+            keys: GroupKeys::new(alloc),
             seats: Seats::new(alloc),
             messages: Messages::new(alloc),
-            entries: GroupRecord::new(alloc),
+            writer: GroupWriter::new(alloc),
         }
     }
 
@@ -80,9 +81,9 @@ impl Play {
     fn act(&mut self, alloc: Global, world: &World, what: &GroupWhat) -> Result<(), OutOfMemory>
         requires plays { IsPlay world.now self.old }
         requires legal { IsRecord (setting_of world.now) world.now.entries }
-        requires may { CanAct world.now.nodes self.old.entries what.now }
+        requires may { CanAct world.now.nodes self.old.writer.entries what.now }
         ensures plays { OnOk result (IsPlay world.now self.new) }
-        ensures entries { OnOk result (self.new.entries ≡ acted (world_of world.now) what.now self.old.entries) }
+        ensures entries { OnOk result (self.new.writer.entries ≡ acted (world_of world.now) what.now self.old.writer.entries) }
     {
         match what {
             GroupWhat::Command {
@@ -108,20 +109,22 @@ impl Play {
     ) -> Result<(), OutOfMemory>
         requires plays { IsPlay world.now self.old }
         requires member { Contains world.now.nodes node }
-        requires newest { IsNewest number self.old.entries }
+        requires newest { IsNewest number self.old.writer.entries }
         ensures plays { OnOk result (IsPlay world.now self.new) }
-        ensures entries { OnOk result (self.new.entries ≡ happened (world_of world.now) self.old.entries (event.Command node number group.now command.now)) }
+        ensures entries { OnOk result (self.new.writer.entries ≡
+            happened (world_of world.now) self.old.writer.entries (event.Command node number group.now command.now)) }
     {
-        let key = id_of_name(group.as_slice());
+        let key = self.keys.key(group)?;
         let at = Spot { node, group, key };
-        let said = self.seats.command(alloc, world, &at, number, command)?;
+        self.seats
+            .command(alloc, &mut self.writer, world, &at, number, command)?;
         let event = GroupEvent::Command {
             node,
             number,
             group: group.copy(),
-            command: copied(alloc, command)?,
+            command: command.copy(alloc)?,
         };
-        self.add(event, None, key, said)?;
+        self.close(event, None, key)?;
         Ok(())
     }
 
@@ -130,7 +133,7 @@ impl Play {
         requires plays { IsPlay world.now self.old }
         requires legal { IsRecord (setting_of world.now) world.now.entries }
         ensures plays { OnOk result (IsPlay world.now self.new) }
-        ensures entries { OnOk result (self.new.entries ≡ settled (world_of world.now) count self.old.entries) }
+        ensures entries { OnOk result (self.new.writer.entries ≡ settled (world_of world.now) count self.old.writer.entries) }
     {
         for _turn in 0..count {
             match self.messages.oldest() {
@@ -151,9 +154,9 @@ impl Play {
         requires plays { IsPlay world.now self.old }
         requires legal { IsRecord (setting_of world.now) world.now.entries }
         ensures plays { OnOk result (IsPlay world.now self.new) }
-        ensures entries { OnOk result (self.new.entries ≡ delivered_once (world_of world.now) message self.old.entries) }
+        ensures entries { OnOk result (self.new.writer.entries ≡ delivered_once (world_of world.now) message self.old.writer.entries) }
     {
-        if message < self.messages.listed.len() as u64 {
+        if message < self.messages.keys.len() as u64 {
             self.deliver(alloc, world, message as usize)?;
         }
         Ok(())
@@ -163,72 +166,52 @@ impl Play {
     fn deliver(&mut self, alloc: Global, world: &World, message: usize) -> Result<(), OutOfMemory>
         requires plays { IsPlay world.now self.old }
         requires legal { IsRecord (setting_of world.now) world.now.entries }
-        requires sent { message < length (sent_in self.old.entries) }
+        requires sent { message < length (sent_in self.old.writer.entries) }
         ensures plays { OnOk result (IsPlay world.now self.new) }
-        ensures entries { OnOk result (self.new.entries ≡ happened (world_of world.now) self.old.entries (event.Deliver message)) }
+        ensures entries { OnOk result (self.new.writer.entries ≡ happened (world_of world.now) self.old.writer.entries (event.Deliver message)) }
     {
-        let listed = &self.messages.listed[message];
-        let key = listed.key;
-        let sent = sent_at(&self.entries, listed);
+        let key = self.messages.keys[message];
+        let sent = &self.writer.sent()[message];
+        let sent = sent.copy(alloc)?;
         let at = Spot {
             node: sent.receiver,
             group: &sent.group,
             key,
         };
-        let said = self
-            .seats
-            .message(alloc, world, &at, sent.sender, &sent.message)?;
+        self.seats.message(
+            alloc,
+            &mut self.writer,
+            world,
+            &at,
+            sent.sender,
+            &sent.message,
+        )?;
         let message = message as u64;
-        self.add(GroupEvent::Deliver { message }, Some(message), key, said)?;
+        self.close(GroupEvent::Deliver { message }, Some(message), key)?;
         Ok(())
     }
 
-    /// One entry more.
-    fn add(
+    /// The next entry is complete: it is of this event, and was in a group of this key.
+    fn close(
         &mut self,
         event: GroupEvent,
         delivered: Option<u64>,
         key: Id,
-        said: Said,
     ) -> Result<(), OutOfMemory>
-        requires messages { ListsMessages self.old.messages self.old.entries }
+        requires messages { ListsMessages self.old.messages self.old.writer.entries }
         requires delivered { delivered ≡ delivered_by event }
-        requires below { IsBelow (length (sent_in self.old.entries)) delivered }
-        requires keys { HaveKey key said.messages }
-        ensures entries { OnOk result (self.new.entries ≡ self.old.entries ++ record { event = event; messages = said.messages; notes = said.notes } ∷ []) }
-        ensures messages { OnOk result (ListsMessages self.new.messages self.new.entries) }
+        requires below { IsBelow (length (sent_in self.old.writer.entries)) delivered }
+        requires keys { HaveKey key self.old.writer.messages }
+        ensures entries { OnOk result (self.new.writer.entries ≡
+            self.old.writer.entries ++ record { event = event; messages = self.old.writer.messages; notes = self.old.writer.notes } ∷ []) }
+        ensures nothing_sent { OnOk result (self.new.writer.messages ≡ []) }
+        ensures nothing_noted { OnOk result (self.new.writer.notes ≡ []) }
+        ensures messages { OnOk result (ListsMessages self.new.messages self.new.writer.entries) }
+        ensures keys { self.new.keys ≡ self.old.keys }
         ensures seats { self.new.seats ≡ self.old.seats }
     {
-        let Said { messages, notes } = said;
-        let place = self.entries.as_slice().len();
-        self.messages
-            .add(delivered, place, messages.as_slice().len(), key)?;
-        self.entries.push(GroupEntry {
-            event,
-            messages,
-            notes,
-        })
+        self.messages.add(delivered, self.writer.sent().len(), key)?;
+        self.writer.close(event)?;
+        Ok(())
     }
-}
-
-/// The message that stands there.
-fn sent_at<'a>(entries: &'a GroupRecord, listed: &Listed) -> &'a GroupSent
-    requires { IsSome (message_at entries.now listed.now) }
-    ensures { message_at entries.now listed.now ≡ Some result.now }
-{
-    let entry = &entries.as_slice()[listed.entry];
-    &entry.messages.as_slice()[listed.place]
-}
-
-/// The same command. The bytes are shared.
-fn copied(alloc: Global, command: &GroupCommand) -> Result<GroupCommand, OutOfMemory>
-    ensures { IfOk result (λ copy. copy ≡ command.now) }
-{
-    Ok(match command {
-        GroupCommand::Subscribe => GroupCommand::Subscribe,
-        GroupCommand::Leave => GroupCommand::Leave,
-        GroupCommand::Publish { bytes } => GroupCommand::Publish {
-            bytes: bytes.copy(alloc)?,
-        },
-    })
 }

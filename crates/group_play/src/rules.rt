@@ -10,28 +10,28 @@ ghost use Rattle.group_play.specs.Said.{Gives};
 ghost use Rattle.group_play.specs.Shown.{HasSeen, is_barred, part_of};
 
 use crate::part::{Part, add_child, remove_child, see};
-use crate::said::{Said, Spot};
+use crate::spot::Spot;
 use overlay_rules::Way;
 use ring_math::{Bytes, Id, OutOfMemory};
-use scribe_core::{GroupMessage, GroupNote};
+use scribe_core::{GroupMessage, GroupNote, GroupWriter};
 use std::alloc::Global;
 
 impl Part {
     /// A command to subscribe.
     pub(crate) fn on_subscribe(
         &mut self,
-        said: &mut Said,
+        writer: &mut GroupWriter,
         at: &Spot<'_>,
         way: Way,
         number: u64,
     ) -> Result<(), OutOfMemory>
         ensures { (seen : List Number) → HasSeen self.old.seen seen →
-            OnOk result (Gives at.now.node at.now.group.now self.new said.old said.new (on_subscribe way (part_of self.old seen) number)) }
+            OnOk result (Gives at.now.node at.now.group.now self.new writer.old writer.new (on_subscribe way (part_of self.old seen) number)) }
     {
         if self.is_barred(&way) {
-            return said.note(GroupNote::Refused { number });
+            return writer.note(GroupNote::Refused { number });
         }
-        self.subscribe(said, at, way, number)
+        self.subscribe(writer, at, way, number)
     }
 
     /// Whether the node can't become a member: it is not ready, or it is loose and keeps the key for a joiner.
@@ -47,35 +47,35 @@ impl Part {
 
     fn subscribe(
         &mut self,
-        said: &mut Said,
+        writer: &mut GroupWriter,
         at: &Spot<'_>,
         way: Way,
         number: u64,
     ) -> Result<(), OutOfMemory>
         ensures { (seen : List Number) → HasSeen self.old.seen seen →
-            OnOk result (Gives at.now.node at.now.group.now self.new said.old said.new (subscribe way (part_of self.old seen) number)) }
+            OnOk result (Gives at.now.node at.now.group.now self.new writer.old writer.new (subscribe way (part_of self.old seen) number)) }
     {
         self.is_member = true;
         let parent = self.attach(way);
-        said.note(GroupNote::Subscribed { number })?;
-        said.graft(at, parent)?;
+        writer.note(GroupNote::Subscribed { number })?;
+        at.graft(writer, parent)?;
         Ok(())
     }
 
     /// A command to leave.
     pub(crate) fn on_leave(
         &mut self,
-        said: &mut Said,
+        writer: &mut GroupWriter,
         at: &Spot<'_>,
         number: u64,
     ) -> Result<(), OutOfMemory>
         ensures { (seen : List Number) → HasSeen self.old.seen seen →
-            OnOk result (Gives at.now.node at.now.group.now self.new said.old said.new (on_leave (part_of self.old seen) number)) }
+            OnOk result (Gives at.now.node at.now.group.now self.new writer.old writer.new (on_leave (part_of self.old seen) number)) }
     {
         self.is_member = false;
         let parent = self.trim();
-        said.note(GroupNote::Left { number })?;
-        said.prune(at, parent)?;
+        writer.note(GroupNote::Left { number })?;
+        at.prune(writer, parent)?;
         Ok(())
     }
 
@@ -83,24 +83,25 @@ impl Part {
     pub(crate) fn on_publish(
         &mut self,
         alloc: Global,
-        said: &mut Said,
+        writer: &mut GroupWriter,
         at: &Spot<'_>,
         way: Way,
         number: u64,
         bytes: &Bytes,
     ) -> Result<(), OutOfMemory>
         ensures { (seen : List Number) → HasSeen self.old.seen seen →
-            OnOk result (Gives at.now.node at.now.group.now self.new said.old said.new (on_publish way at.now.group.now (part_of self.old seen) number bytes.now)) }
+            OnOk result (Gives at.now.node at.now.group.now self.new writer.old writer.new
+            (on_publish way at.now.group.now (part_of self.old seen) number bytes.now)) }
     {
         match way {
-            Way::NotReady | Way::Gap { .. } => said.note(GroupNote::Refused { number }),
+            Way::NotReady | Way::Gap { .. } => writer.note(GroupNote::Refused { number }),
             Way::Here => {
-                said.note(GroupNote::Published { number })?;
-                self.cast(alloc, said, at, number, bytes)
+                writer.note(GroupNote::Published { number })?;
+                self.cast(alloc, writer, at, number, bytes)
             }
             Way::To { node } => {
-                said.note(GroupNote::Published { number })?;
-                pass_on(alloc, said, at, node, number, bytes)
+                writer.note(GroupNote::Published { number })?;
+                pass_on(alloc, writer, at, node, number, bytes)
             }
         }
     }
@@ -108,33 +109,33 @@ impl Part {
     /// A child asks for its place.
     pub(crate) fn on_graft(
         &mut self,
-        said: &mut Said,
+        writer: &mut GroupWriter,
         at: &Spot<'_>,
         way: Way,
         sender: Id,
     ) -> Result<(), OutOfMemory>
         ensures { (seen : List Number) → HasSeen self.old.seen seen →
-            OnOk result (Gives at.now.node at.now.group.now self.new said.old said.new (on_graft way (part_of self.old seen) sender)) }
+            OnOk result (Gives at.now.node at.now.group.now self.new writer.old writer.new (on_graft way (part_of self.old seen) sender)) }
     {
         add_child(&mut self.children, sender)?;
         let parent = self.attach(way);
-        said.graft(at, parent)?;
+        at.graft(writer, parent)?;
         Ok(())
     }
 
     /// A child leaves.
     pub(crate) fn on_prune(
         &mut self,
-        said: &mut Said,
+        writer: &mut GroupWriter,
         at: &Spot<'_>,
         sender: Id,
     ) -> Result<(), OutOfMemory>
         ensures { (seen : List Number) → HasSeen self.old.seen seen →
-            OnOk result (Gives at.now.node at.now.group.now self.new said.old said.new (on_prune (part_of self.old seen) sender)) }
+            OnOk result (Gives at.now.node at.now.group.now self.new writer.old writer.new (on_prune (part_of self.old seen) sender)) }
     {
         remove_child(&mut self.children, sender);
         let parent = self.trim();
-        said.prune(at, parent)?;
+        at.prune(writer, parent)?;
         Ok(())
     }
 
@@ -142,19 +143,20 @@ impl Part {
     pub(crate) fn on_published(
         &mut self,
         alloc: Global,
-        said: &mut Said,
+        writer: &mut GroupWriter,
         at: &Spot<'_>,
         way: Way,
         number: u64,
         bytes: &Bytes,
     ) -> Result<(), OutOfMemory>
         ensures { (seen : List Number) → HasSeen self.old.seen seen →
-            OnOk result (Gives at.now.node at.now.group.now self.new said.old said.new (on_published way at.now.group.now (part_of self.old seen) number bytes.now)) }
+            OnOk result (Gives at.now.node at.now.group.now self.new writer.old writer.new
+            (on_published way at.now.group.now (part_of self.old seen) number bytes.now)) }
     {
         match way {
             Way::NotReady | Way::Gap { .. } => Ok(()),
-            Way::Here => self.cast(alloc, said, at, number, bytes),
-            Way::To { node } => pass_on(alloc, said, at, node, number, bytes),
+            Way::Here => self.cast(alloc, writer, at, number, bytes),
+            Way::To { node } => pass_on(alloc, writer, at, node, number, bytes),
         }
     }
 
@@ -162,20 +164,20 @@ impl Part {
     pub(crate) fn cast(
         &mut self,
         alloc: Global,
-        said: &mut Said,
+        writer: &mut GroupWriter,
         at: &Spot<'_>,
         number: u64,
         bytes: &Bytes,
     ) -> Result<(), OutOfMemory>
         ensures { (seen : List Number) → HasSeen self.old.seen seen →
-            OnOk result (Gives at.now.node at.now.group.now self.new said.old said.new (cast at.now.group.now (part_of self.old seen) number bytes.now)) }
+            OnOk result (Gives at.now.node at.now.group.now self.new writer.old writer.new (cast at.now.group.now (part_of self.old seen) number bytes.now)) }
     {
         if !see(&mut self.seen, number)? {
             return Ok(());
         }
-        cast_to(alloc, said, at, &self.children, number, bytes)?;
+        cast_to(alloc, writer, at, &self.children, number, bytes)?;
         if self.is_member {
-            said.note(heard(alloc, at, number, bytes)?)?;
+            writer.note(heard(alloc, at, number, bytes)?)?;
         }
         Ok(())
     }
@@ -184,22 +186,23 @@ impl Part {
 /// A Cast to each of these, in their order.
 fn cast_to(
     alloc: Global,
-    said: &mut Said,
+    writer: &mut GroupWriter,
     at: &Spot<'_>,
     children: &[Id],
     number: u64,
     bytes: &Bytes,
 ) -> Result<(), OutOfMemory>
-    ensures messages { OnOk result (said.new.messages ≡
-        said.old.messages ++ map (sent_from at.now.node at.now.group.now) (to_each children.now (message.Cast number bytes.now))) }
-    ensures notes { OnOk result (said.new.notes ≡ said.old.notes) }
+    ensures entries { writer.new.entries ≡ writer.old.entries }
+    ensures messages { OnOk result (writer.new.messages ≡
+        writer.old.messages ++ map (sent_from at.now.node at.now.group.now) (to_each children.now (message.Cast number bytes.now))) }
+    ensures notes { writer.new.notes ≡ writer.old.notes }
 {
     for child in children {
         let message = GroupMessage::Cast {
             number,
             bytes: bytes.copy(alloc)?,
         };
-        said.send(at, *child, message)?;
+        at.send(writer, *child, message)?;
     }
     Ok(())
 }
@@ -218,19 +221,20 @@ fn heard(alloc: Global, at: &Spot<'_>, number: u64, bytes: &Bytes) -> Result<Gro
 /// What was published goes on to the next node on the way to the root.
 fn pass_on(
     alloc: Global,
-    said: &mut Said,
+    writer: &mut GroupWriter,
     at: &Spot<'_>,
     receiver: Id,
     number: u64,
     bytes: &Bytes,
 ) -> Result<(), OutOfMemory>
-    ensures messages { OnOk result (said.new.messages ≡
-        said.old.messages ++ sent_from at.now.node at.now.group.now (to receiver (message.Publish number bytes.now)) ∷ []) }
-    ensures notes { OnOk result (said.new.notes ≡ said.old.notes) }
+    ensures entries { writer.new.entries ≡ writer.old.entries }
+    ensures messages { OnOk result (writer.new.messages ≡
+        writer.old.messages ++ sent_from at.now.node at.now.group.now (to receiver (message.Publish number bytes.now)) ∷ []) }
+    ensures notes { writer.new.notes ≡ writer.old.notes }
 {
     let message = GroupMessage::Publish {
         number,
         bytes: bytes.copy(alloc)?,
     };
-    said.send(at, receiver, message)
+    at.send(writer, receiver, message)
 }

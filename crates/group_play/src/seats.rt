@@ -9,12 +9,12 @@ ghost use Rattle.world_model.specs.Recorded.{world_of};
 ghost use Rattle.group_play.specs.Seats.{AreSeats, IsPlaceOf, IsSeatOf, NoneFrom, ShowParts, StepsTo};
 
 use crate::part::Part;
-use crate::said::{Said, Spot};
+use crate::spot::Spot;
 use ring_math::{Id, OutOfMemory, cw};
 use scenario_reader::Name;
-use scribe_core::{GroupCommand, GroupMessage};
+use scribe_core::{GroupCommand, GroupMessage, GroupWriter};
 use std::alloc::Global;
-use std::collections::BTreeMap;
+use std::collections::HashMap;
 use world_model::World;
 
 /// The seat of a node in a group.
@@ -36,7 +36,7 @@ pub(crate) struct Seats {
     pub(crate) items: Vec<Seat>,
     pub(crate) parts: Vec<Part>,
     /// The last seat of each number.
-    pub(crate) last: BTreeMap<u128, usize>,
+    pub(crate) last: HashMap<u128, usize>,
 }
 
 impl Seats {
@@ -48,7 +48,7 @@ impl Seats {
         Seats {
             items: Vec::new(alloc),
             parts: Vec::new(alloc),
-            last: BTreeMap::new(alloc),
+            last: HashMap::new(alloc),
         }
     }
 
@@ -56,46 +56,48 @@ impl Seats {
     pub(crate) fn command(
         &mut self,
         alloc: Global,
+        writer: &mut GroupWriter,
         world: &World,
         at: &Spot<'_>,
         number: u64,
         command: &GroupCommand,
-    ) -> Result<Said, OutOfMemory>
+    ) -> Result<(), OutOfMemory>
         requires seats { AreSeats self.old }
         requires key { at.now.key ≡ id_of at.now.group.now }
         requires member { Contains world.now.nodes at.now.node }
         ensures seats { OnOk result (AreSeats self.new) }
         ensures steps { (parts : PlainId → GroupName → PlainPart) → ShowParts self.old parts →
-            IfOk result (λ said. StepsTo (world_of world.now) self.new parts
-            (record { node = at.now.node; group = at.now.group.now; input = Command number command.now }) said) }
+            OnOk result (StepsTo (world_of world.now) self.new parts
+            (record { node = at.now.node; group = at.now.group.now; input = Command number command.now }) writer.old writer.new) }
     {
         let place = self.place(alloc, at)?;
         let part = &mut self.parts[place];
-        let said = part.command(alloc, world, at, number, command)?;
-        Ok(said)
+        part.command(alloc, writer, world, at, number, command)?;
+        Ok(())
     }
 
     /// A message comes to a node in a group.
     pub(crate) fn message(
         &mut self,
         alloc: Global,
+        writer: &mut GroupWriter,
         world: &World,
         at: &Spot<'_>,
         sender: Id,
         message: &GroupMessage,
-    ) -> Result<Said, OutOfMemory>
+    ) -> Result<(), OutOfMemory>
         requires seats { AreSeats self.old }
         requires key { at.now.key ≡ id_of at.now.group.now }
         requires member { Contains world.now.nodes at.now.node }
         ensures seats { OnOk result (AreSeats self.new) }
         ensures steps { (parts : PlainId → GroupName → PlainPart) → ShowParts self.old parts →
-            IfOk result (λ said. StepsTo (world_of world.now) self.new parts
-            (record { node = at.now.node; group = at.now.group.now; input = Comes sender message.now }) said) }
+            OnOk result (StepsTo (world_of world.now) self.new parts
+            (record { node = at.now.node; group = at.now.group.now; input = Comes sender message.now }) writer.old writer.new) }
     {
         let place = self.place(alloc, at)?;
         let part = &mut self.parts[place];
-        let said = part.message(alloc, world, at, sender, message)?;
-        Ok(said)
+        part.message(alloc, writer, world, at, sender, message)?;
+        Ok(())
     }
 
     /// The place of a node's seat in a group, which is taken if it was not.

@@ -3,15 +3,10 @@ use Rattle.std.proofs.Common.{◌≡◌, ◌<◌, ◌+◌, ◌==◌, ℕ, Bool, 
 use Rattle.std.proofs.Common.{sym, ap, ◌∙◌}
 use Rattle.std.specs.Prelude.{is_some}
 use Rattle.std.proofs.lemmas.Bool.Decides.{Decides-eqb}
-use Rattle.std.proofs.lemmas.List.{flat_map_more, take_more}
-use Rattle.scribe_core.specs.declared.entry.GroupEntry.{GroupEntry}
+use Rattle.std.proofs.lemmas.List.{take_more}
 use Rattle.scribe_core.specs.declared.note.GroupNote.{GroupNote}
 use Rattle.group_report.specs.declared.answers.Answer.{Answer}
-use Rattle.group_report.specs.Answers.{answer_by, answer_in, answer_to, notes_in, or_later}
-
-later_assoc : (a b c : Option Answer) → or_later a (or_later b c) ≡ or_later (or_later a b) c
-later_assoc None b c = refl
-later_assoc (Some a) b c = refl
+use Rattle.group_report.specs.Answers.{answer_by, answer_in, answer_to, or_later}
 
 later_none : (a : Option Answer) → or_later a None ≡ a
 later_none None = refl
@@ -30,12 +25,11 @@ answer_to-append n [] ys = refl
 answer_to-append n (x ∷ xs) ys = ap (answer_by n (answer_in x)) (answer_to-append n xs ys) ∙ answer_by-later n (answer_in x) (answer_to n xs) (answer_to n ys)
 
 -- one note more
-pub answer_to-more : (n : ℕ) (notes : List GroupNote) (i : ℕ) (a : GroupNote) (before : Option Answer) → i < length notes → a ≡ get_or notes i a →
-    or_later before (answer_to n (take (i + 1) notes)) ≡ or_later (or_later before (answer_to n (take i notes))) (answer_by n (answer_in a) None)
-answer_to-more n notes i a before l is =
-    ap (λ ns. or_later before (answer_to n ns)) (take_more notes i a l ∙ ap (λ (b : GroupNote). take i notes ++ b ∷ []) (sym is))
-    ∙ ap (or_later before) (answer_to-append n (take i notes) (a ∷ []))
-    ∙ later_assoc before (answer_to n (take i notes)) (answer_by n (answer_in a) None)
+pub answer_to-more : (n : ℕ) (notes : List GroupNote) (i : ℕ) (a : GroupNote) → i < length notes → a ≡ get_or notes i a →
+    answer_to n (take (i + 1) notes) ≡ or_later (answer_to n (take i notes)) (answer_by n (answer_in a) None)
+answer_to-more n notes i a l is =
+    ap (λ ns. answer_to n ns) (take_more notes i a l ∙ ap (λ (b : GroupNote). take i notes ++ b ∷ []) (sym is))
+    ∙ answer_to-append n (take i notes) (a ∷ [])
 
 pub none_more : (n : ℕ) (before : Option Answer) → or_later before (answer_by n None None) ≡ before
 none_more n before = later_none before
@@ -62,11 +56,3 @@ new_more n m a before new = by_test (m == n) refl where
   by_test : (t : Bool) → (m == n) ≡ t → cond t (Some a) (before n) ≡ or_later (before n) (cond t (Some a) None)
   by_test true e = sym (none_takes (before n) (Some a) (new ∙ ap (λ (k : ℕ). is_some (before k)) ((Decides-eqb m n).0 e)))
   by_test false e = sym (later_none (before n))
-
--- one entry more
-pub answers_more : (n : ℕ) (es : List GroupEntry) (i : ℕ) (e : GroupEntry) → i < length es → e ≡ get_or es i e →
-    answer_to n (notes_in (take (i + 1) es)) ≡ or_later (answer_to n (notes_in (take i es))) (answer_to n e.notes)
-answers_more n es i e l is =
-    ap (λ (xs : List GroupEntry). answer_to n (notes_in xs)) (take_more es i e l ∙ ap (λ (d : GroupEntry). take i es ++ d ∷ []) (sym is))
-    ∙ ap (answer_to n) (sym (flat_map_more (λ (d : GroupEntry). d.notes) [] (take i es) e))
-    ∙ answer_to-append n (notes_in (take i es)) e.notes

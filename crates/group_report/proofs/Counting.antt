@@ -1,14 +1,13 @@
 -- Counts of a record's messages.
-use Rattle.std.proofs.Common.{◌≡◌, ◌<◌, ◌+◌, ◌==◌, ◌||◌, ℕ, zero, suc, Bool, true, false, cond, not, count_by, List, [], ◌∷◌, ◌++◌, length, get_or}
-use Rattle.std.proofs.Common.{take, refl, sym, ap}
+use Rattle.std.proofs.Common.{◌≡◌, ◌<◌, ◌+◌, ◌||◌, ℕ, suc, Bool, true, false, cond, not, count_by, Some, List, [], ◌∷◌, length, get_or}
+use Rattle.std.proofs.Common.{slice_get, take, refl, sym, ap}
 use Rattle.std.proofs.Common.{◌∙◌, arith, add-zero, zero-add}
-use Rattle.std.proofs.lemmas.List.{take_more}
 use Rattle.std.proofs.lemmas.List.Folds.{list_any-append}
 use Rattle.std.proofs.lemmas.List.Sums.{sum_by-cons}
-use Rattle.scribe_core.specs.declared.entry.GroupEntry.{GroupEntry}
+use Rattle.scribe_core.specs.Entry.{GroupEntry}
 use Rattle.scribe_core.specs.Played.{is_delivery_of, was_delivered}
 use Rattle.scribe_core.specs.Record.{sent_in}
-use Rattle.scribe_core.proofs.Holding.{sent_in-push}
+use Rattle.scribe_core.proofs.Kept.{take_next}
 use Rattle.group_report.specs.Counts.{undelivered_among}
 
 -- marks that say which messages were delivered count those that were not
@@ -31,16 +30,11 @@ or_false true = refl
 or_false false = refl
 
 -- one entry more
-pub delivered_more : (es : List GroupEntry) (i m : ℕ) (e : GroupEntry) → i < length es → e ≡ get_or es i e →
+pub delivered_more : (es : List GroupEntry) (i m : ℕ) (e : GroupEntry) → slice_get es i ≡ Some e →
     was_delivered (take (i + 1) es) m ≡ (was_delivered (take i es) m || is_delivery_of m e.event)
-delivered_more es i m e l is =
-    ap (λ xs. was_delivered xs m) (take_more es i e l ∙ ap (λ (d : GroupEntry). take i es ++ d ∷ []) (sym is))
-    ∙ list_any-append (λ (d : GroupEntry). is_delivery_of m d.event) (take i es) (e ∷ [])
+delivered_more es i m e is =
+    ap (λ xs. was_delivered xs m) (take_next es i e is) ∙ list_any-append (λ (d : GroupEntry). is_delivery_of m d.event) (take i es) (e ∷ [])
     ∙ ap (λ t. was_delivered (take i es) m || t) (or_false (is_delivery_of m e.event))
-
-pub sent_more : (es : List GroupEntry) (i : ℕ) (e : GroupEntry) → i < length es → e ≡ get_or es i e →
-    sent_in (take (i + 1) es) ≡ sent_in (take i es) ++ e.messages
-sent_more es i e l is = ap sent_in (take_more es i e l ∙ ap (λ (d : GroupEntry). take i es ++ d ∷ []) (sym is)) ∙ sent_in-push (take i es) e
 
 -- marks of all messages count those that were not delivered
 pub all_undelivered : (es : List GroupEntry) (marks : List Bool) → length marks ≡ length (sent_in es) →

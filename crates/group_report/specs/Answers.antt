@@ -4,7 +4,6 @@ use Rattle.ring_math.specs.Names.{Number}
 use Rattle.scribe_core.specs.declared.action.GroupAction.{GroupAction}
 use Rattle.scribe_core.specs.declared.action.GroupWhat.{GroupWhat}
 use Rattle.scribe_core.specs.declared.action.GroupWhat.TheVariants as what
-use Rattle.scribe_core.specs.declared.entry.GroupEntry.{GroupEntry}
 use Rattle.scribe_core.specs.declared.note.GroupNote.{GroupNote}
 use Rattle.scribe_core.specs.declared.note.GroupNote.TheVariants as note
 use Rattle.group_report.specs.declared.answers.Answer.{Answer}
@@ -17,10 +16,6 @@ answer_in (note.Left n) = Some (n, answer.Left)
 answer_in (note.Published n) = Some (n, answer.Published)
 answer_in (note.Refused n) = Some (n, answer.Refused)
 answer_in (note.Heard name n bytes) = None
-
--- all that was noted, in order
-abbrev pub notes_in : List GroupEntry → List GroupNote
-notes_in es = flat_map (λ (e : GroupEntry). e.notes) es
 
 -- the first answer to command n
 abbrev pub answer_by : Number → Option (Number × Answer) → Option Answer → Option Answer
@@ -51,6 +46,6 @@ action_line notes (what.Command n node name c) = answer_line n (answer_to n note
 action_line notes (what.Settle n) = []
 action_line notes (what.Deliver m) = []
 
--- a line for each command of these actions
-abbrev pub answer_lines : List GroupAction → List GroupEntry → List ℕ
-answer_lines actions es = flat_map (λ (a : GroupAction). action_line (notes_in es) a.what) actions
+-- a line for each command of these actions, of which this was noted
+abbrev pub answer_lines : List GroupAction → List GroupNote → List ℕ
+answer_lines actions notes = flat_map (λ (a : GroupAction). action_line notes a.what) actions

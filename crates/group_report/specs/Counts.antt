@@ -1,12 +1,11 @@
 -- What a group record comes to.
 use Rattle.std.specs.Prelude.{ℕ, zero, suc, Bool, true, false, if◌then◌else◌, List, ◌++◌, length, count_by, codes, decimal}
-use Rattle.scribe_core.specs.declared.entry.GroupEntry.{GroupEntry}
+use Rattle.scribe_core.specs.Entry.{GroupEntry}
 use Rattle.scribe_core.specs.declared.note.GroupNote.{GroupNote}
 use Rattle.scribe_core.specs.declared.note.GroupNote.TheVariants as note
 use Rattle.scribe_core.specs.Played.{was_delivered}
-use Rattle.scribe_core.specs.Record.{sent_in}
+use Rattle.scribe_core.specs.Record.{notes_in, sent_in}
 use Rattle.group_report.specs.declared.counts.Counts.{Counts}
-use Rattle.group_report.specs.Answers.{notes_in}
 
 -- of so many messages, from number m on, those that no entry delivered
 abbrev pub undelivered_among : List GroupEntry → ℕ → ℕ → ℕ

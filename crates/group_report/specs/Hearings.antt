@@ -2,7 +2,7 @@
 use Rattle.std.specs.Prelude.{ℕ, List, [], ◌∷◌, ◌++◌, Option, Some, None, codes, decimal, flat_map}
 use Rattle.ring_math.specs.Names.{Id}
 use Rattle.scenario_reader.specs.declared.node.NodeLine.{NodeLine}
-use Rattle.scribe_core.specs.declared.entry.GroupEntry.{GroupEntry}
+use Rattle.scribe_core.specs.Entry.{GroupEntry}
 use Rattle.scribe_core.specs.declared.message.GroupSent.{GroupSent}
 use Rattle.scribe_core.specs.declared.note.GroupNote.{GroupNote}
 use Rattle.scribe_core.specs.declared.note.GroupNote.TheVariants as note

@@ -3,10 +3,10 @@
 ghost use Rattle.std.specs.Prelude.{◌≡◌, ◌++◌, ℕ, IfOk, None, OnOk, Some};
 ghost use Rattle.std.specs.BTreeMap.{get};
 ghost use Rattle.std.specs.Ordering.{nat_cmp};
-ghost use Rattle.group_report.specs.Answers.{answer_by, answer_in, answer_line, answer_lines, answer_text, answer_to, notes_in, or_later};
+ghost use Rattle.group_report.specs.Answers.{answer_by, answer_in, answer_line, answer_lines, answer_text, answer_to, or_later};
 
 use ring_math::OutOfMemory;
-use scribe_core::{GroupAction, GroupEntry, GroupNote, GroupWhat};
+use scribe_core::{GroupAction, GroupNote, GroupWhat};
 use std::alloc::Global;
 use std::collections::BTreeMap;
 use text_writer::Text;
@@ -20,16 +20,16 @@ pub(crate) enum Answer {
     Refused,
 }
 
-/// Writes a line for each command of these actions.
+/// Writes a line for each command of these actions, of which all was noted that is to be known.
 pub(crate) fn answer_lines(
     alloc: Global,
     text: &mut Text,
     actions: &[GroupAction],
-    entries: &[GroupEntry],
+    notes: &[GroupNote],
 ) -> Result<(), OutOfMemory>
-    ensures { OnOk result (text.new ≡ text.old ++ answer_lines actions.now entries.now) }
+    ensures { OnOk result (text.new ≡ text.old ++ answer_lines actions.now notes.now) }
 {
-    let answers = answers_in(alloc, entries)?;
+    let answers = answers_in(alloc, notes)?;
     for action in actions {
         if let GroupWhat::Command { number, .. } = &action.what {
             put_answer(text, *number, answers.get(number).copied())?;
@@ -39,24 +39,14 @@ pub(crate) fn answer_lines(
 }
 
 /// The first answer to each command that has one.
-fn answers_in(alloc: Global, entries: &[GroupEntry]) -> Result<BTreeMap<u64, Answer>, OutOfMemory>
-    ensures { IfOk result (λ answers. (n : ℕ) → get nat_cmp answers n ≡ answer_to n (notes_in entries.now)) }
+fn answers_in(alloc: Global, notes: &[GroupNote]) -> Result<BTreeMap<u64, Answer>, OutOfMemory>
+    ensures { IfOk result (λ answers. (n : ℕ) → get nat_cmp answers n ≡ answer_to n notes.now) }
 {
     let mut answers = BTreeMap::new(alloc);
-    for entry in entries {
-        add_answers(&mut answers, entry.notes.as_slice())?;
+    for note in notes {
+        add_answer(&mut answers, note)?;
     }
     Ok(answers)
-}
-
-/// Adds the first answer to each command that has none yet.
-fn add_answers(answers: &mut BTreeMap<u64, Answer>, notes: &[GroupNote]) -> Result<(), OutOfMemory>
-    ensures { OnOk result ((n : ℕ) → get nat_cmp answers.new n ≡ or_later (get nat_cmp answers.old n) (answer_to n notes.now)) }
-{
-    for note in notes {
-        add_answer(answers, note)?;
-    }
-    Ok(())
 }
 
 /// Adds a note's answer, if it is the first to its command.

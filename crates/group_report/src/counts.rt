@@ -3,11 +3,11 @@
 ghost use Rattle.std.specs.Prelude.{◌≡◌, ◌++◌, ◌+◌, ◌<◌, ◌||◌, ℕ, false, not, IfOk, OnOk, count_by, length, slice_index_or};
 ghost use Rattle.scribe_core.specs.Played.{is_delivery_of, was_delivered};
 ghost use Rattle.scribe_core.specs.Record.{sent_in};
-ghost use Rattle.group_report.specs.Answers.{notes_in};
+ghost use Rattle.scribe_core.specs.Seen.{event_seen};
 ghost use Rattle.group_report.specs.Counts.{counts_of, is_hearing, summary_line};
 
 use ring_math::OutOfMemory;
-use scribe_core::{GroupEntry, GroupEvent, GroupNote};
+use scribe_core::{GroupEventRef, GroupNote, GroupRecord};
 use std::alloc::Global;
 use text_writer::Text;
 
@@ -26,11 +26,11 @@ pub(crate) struct Counts {
 pub(crate) fn put_summary(
     alloc: Global,
     text: &mut Text,
-    entries: &[GroupEntry],
+    steps: &GroupRecord,
 ) -> Result<(), OutOfMemory>
-    ensures { OnOk result (text.new ≡ text.old ++ summary_line (counts_of entries.now)) }
+    ensures { OnOk result (text.new ≡ text.old ++ summary_line (counts_of steps.now)) }
 {
-    let counts = counts_of(alloc, entries)?;
+    let counts = counts_of(alloc, steps)?;
     counts.write(text)
 }
 
@@ -47,69 +47,44 @@ impl Counts {
     }
 }
 
-fn counts_of(alloc: Global, entries: &[GroupEntry]) -> Result<Counts, OutOfMemory>
-    ensures { IfOk result (λ counts. counts ≡ counts_of entries.now) }
+fn counts_of(alloc: Global, steps: &GroupRecord) -> Result<Counts, OutOfMemory>
+    ensures { IfOk result (λ counts. counts ≡ counts_of steps.now) }
 {
-    let delivered = delivered_messages(alloc, entries)?;
+    let delivered = delivered_messages(alloc, steps)?;
     Ok(Counts {
-        entries: entries.len() as u64,
+        entries: steps.len() as u64,
         sent: delivered.len() as u64,
         undelivered: unmarked(&delivered),
-        heard: hearings(entries)?,
+        heard: hearings_in(steps.notes()),
     })
 }
 
 /// For each message that was sent, whether an entry delivered it.
-fn delivered_messages(alloc: Global, entries: &[GroupEntry]) -> Result<Vec<bool>, OutOfMemory>
-    ensures sent { IfOk result (λ marks. length marks.items ≡ length (sent_in entries.now)) }
-    ensures marked { IfOk result (λ marks. (m : ℕ) → m < length marks.items → slice_index_or marks.items m false ≡ was_delivered entries.now m) }
+fn delivered_messages(alloc: Global, steps: &GroupRecord) -> Result<Vec<bool>, OutOfMemory>
+    ensures sent { IfOk result (λ marks. length marks.items ≡ length (sent_in steps.now)) }
+    ensures marked { IfOk result (λ marks. (m : ℕ) → m < length marks.items → slice_index_or marks.items m false ≡ was_delivered steps.now m) }
 {
-    let mut marks = no_marks(alloc, entries)?;
-    mark_all(&mut marks, entries);
-    Ok(marks)
-}
-
-/// A mark for each message that was sent, none of which is set.
-fn no_marks(alloc: Global, entries: &[GroupEntry]) -> Result<Vec<bool>, OutOfMemory>
-    ensures sent { IfOk result (λ marks. length marks.items ≡ length (sent_in entries.now)) }
-    ensures unset { IfOk result (λ marks. (m : ℕ) → slice_index_or marks.items m false ≡ false) }
-{
-    let mut marks = Vec::new(alloc);
-    for entry in entries {
-        add_marks(&mut marks, entry.messages.as_slice().len())?;
+    let mut marks = vec![in alloc; false; steps.sent().len()]?;
+    for place in 0..steps.len() {
+        let entry = steps.at(place);
+        mark(&mut marks, &entry.event);
+        // Named, since the prover has to see what type a command is.
+        if let GroupEventRef::Command {
+            command: _command,
+            ..
+        } = entry.event
+        {}
     }
     Ok(marks)
-}
-
-/// Marks the messages that entries deliver, of those that have a mark.
-fn mark_all(marks: &mut Vec<bool>, entries: &[GroupEntry])
-    requires { (m : ℕ) → slice_index_or marks.old.items m false ≡ false }
-    ensures count { length marks.new.items ≡ length marks.old.items }
-    ensures marked { (m : ℕ) → m < length marks.old.items → slice_index_or marks.new.items m false ≡ was_delivered entries.now m }
-{
-    for entry in entries {
-        mark(marks, &entry.event);
-    }
-}
-
-/// So many messages more, none of which was delivered.
-fn add_marks(marks: &mut Vec<bool>, count: usize) -> Result<(), OutOfMemory>
-    ensures count { OnOk result (length marks.new.items ≡ length marks.old.items + count) }
-    ensures marks { OnOk result ((m : ℕ) → slice_index_or marks.new.items m false ≡ slice_index_or marks.old.items m false) }
-{
-    for _place in 0..count {
-        marks.push(false)?;
-    }
-    Ok(())
 }
 
 /// Marks the message that an event delivers, if it was sent.
-fn mark(marks: &mut Vec<bool>, event: &GroupEvent)
+fn mark(marks: &mut Vec<bool>, event: &GroupEventRef<'_>)
     ensures count { length marks.new.items ≡ length marks.old.items }
     ensures marks { (m : ℕ) → m < length marks.old.items →
-        slice_index_or marks.new.items m false ≡ (slice_index_or marks.old.items m false || is_delivery_of m event.now) }
+        slice_index_or marks.new.items m false ≡ (slice_index_or marks.old.items m false || is_delivery_of m (event_seen event.now)) }
 {
-    if let GroupEvent::Deliver { message } = event {
+    if let GroupEventRef::Deliver { message } = event {
         if *message < marks.len() as u64 {
             marks[*message as usize] = true;
         }
@@ -123,19 +98,6 @@ fn unmarked(marks: &[bool]) -> u64
 }
 
 /// How many publications were heard.
-fn hearings(entries: &[GroupEntry]) -> Result<u64, OutOfMemory>
-    ensures { IfOk result (λ count. count ≡ count_by is_hearing (notes_in entries.now)) }
-{
-    let mut count: u64 = 0;
-    for entry in entries {
-        // No memory holds notes past the last number, but no type says so.
-        count = count
-            .checked_add(hearings_in(entry.notes.as_slice()))
-            .ok_or(OutOfMemory)?;
-    }
-    Ok(count)
-}
-
 fn hearings_in(notes: &[GroupNote]) -> u64
     ensures { result ≡ count_by is_hearing notes.now }
 {

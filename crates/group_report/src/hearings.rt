@@ -1,69 +1,63 @@
 //! What members heard.
 
-ghost use Rattle.std.specs.Prelude.{◌≡◌, ◌++◌, ℕ, List, OnOk, flat_map, map, option_map};
-ghost use Rattle.scribe_core.specs.declared.message.GroupSent.{GroupSent};
+ghost use Rattle.std.specs.Prelude.{◌≡◌, ◌++◌, OnOk, flat_map, option_map};
 ghost use Rattle.scribe_core.specs.Record.{Visit, visit};
+ghost use Rattle.scribe_core.specs.Seen.{entry_seen, event_seen};
 ghost use Rattle.group_report.specs.Hearings.{entry_lines, hearing_line, hearing_lines};
 
 use delivery_report::{NodeNames, put_bytes};
 use ring_math::{Bytes, Id, OutOfMemory};
 use scenario_reader::Name;
-use scribe_core::{GroupEntry, GroupEvent, GroupNote, GroupSent};
-use std::alloc::Global;
+use scribe_core::{GroupEntryRef, GroupEventRef, GroupNote, GroupRecord, GroupSent};
 use text_writer::Text;
 
 /// Writes a line for each publication that a member heard.
 pub(crate) fn hearing_lines(
-    alloc: Global,
     text: &mut Text,
     names: &NodeNames<'_>,
-    entries: &[GroupEntry],
+    steps: &GroupRecord,
 ) -> Result<(), OutOfMemory>
-    ensures { OnOk result (text.new ≡ text.old ++ hearing_lines names.now entries.now) }
+    ensures { OnOk result (text.new ≡ text.old ++ hearing_lines names.now steps.now) }
 {
-    let mut receivers = Vec::new(alloc);
-    for entry in entries {
-        entry_lines(text, names, &receivers, entry)?;
-        add_receivers(&mut receivers, entry.messages.as_slice())?;
+    for place in 0..steps.len() {
+        let entry = steps.at(place);
+        entry_lines(text, names, steps.sent_before(place), &entry)?;
+        // Named, since the prover has to see what type a command is.
+        if let GroupEventRef::Command {
+            command: _command,
+            ..
+        } = entry.event
+        {}
     }
     Ok(())
 }
 
-/// Writes the lines of an entry, before which messages were sent to these.
+/// Writes the lines of an entry, before which this was sent.
 fn entry_lines(
     text: &mut Text,
     names: &NodeNames<'_>,
-    receivers: &[Id],
-    entry: &GroupEntry,
+    sent: &[GroupSent],
+    entry: &GroupEntryRef<'_>,
 ) -> Result<(), OutOfMemory>
-    ensures { (sent : List GroupSent) → receivers.now ≡ map (λ (s : GroupSent). s.receiver) sent →
-        OnOk result (text.new ≡ text.old ++ entry_lines names.now (visit sent entry.now.event) entry.now.notes) }
+    ensures { OnOk result (text.new ≡ text.old ++ entry_lines names.now (visit sent.now (entry_seen entry.now).event) (entry_seen entry.now).notes) }
 {
-    match node_of(&entry.event, receivers) {
-        Some(node) => note_lines(text, names, node, entry.notes.as_slice()),
+    match node_of(&entry.event, sent) {
+        Some(node) => note_lines(text, names, node, entry.notes),
         None => Ok(()),
     }
 }
 
-/// The node of an event, where messages were sent to these. None where it delivers a message that was not sent.
-fn node_of(event: &GroupEvent, receivers: &[Id]) -> Option<Id>
-    ensures { (sent : List GroupSent) → receivers.now ≡ map (λ (s : GroupSent). s.receiver) sent →
-        result ≡ option_map (λ (v : Visit). v.node) (visit sent event.now) }
+/// The node of an event, before which this was sent. None where it delivers a message that was not.
+fn node_of(event: &GroupEventRef<'_>, sent: &[GroupSent]) -> Option<Id>
+    ensures { result ≡ option_map (λ (v : Visit). v.node) (visit sent.now (event_seen event.now)) }
 {
     match event {
-        GroupEvent::Command { node, .. } => Some(*node),
-        GroupEvent::Deliver { message } => receivers.get(*message as usize).copied(),
+        GroupEventRef::Command { node, .. } => Some(*node),
+        GroupEventRef::Deliver { message } => {
+            let sent = sent.get(*message as usize)?;
+            Some(sent.receiver)
+        }
     }
-}
-
-/// Whom messages go to.
-fn add_receivers(receivers: &mut Vec<Id>, messages: &[GroupSent]) -> Result<(), OutOfMemory>
-    ensures { OnOk result (receivers.new.items ≡ receivers.old.items ++ map (λ (s : GroupSent). s.receiver) messages.now) }
-{
-    for sent in messages {
-        receivers.push(sent.receiver)?;
-    }
-    Ok(())
 }
 
 /// Writes the lines of a node's notes.

@@ -5,7 +5,7 @@ mod answers;
 mod counts;
 mod hearings;
 
-ghost use Rattle.std.specs.Prelude.{◌≡◌, IfOk};
+ghost use Rattle.std.specs.Prelude.{◌≡◌, ◌++◌, IfOk, OnOk};
 ghost use Rattle.group_report.specs.Report.{groups_text};
 
 use crate::answers::answer_lines;
@@ -31,13 +31,25 @@ pub fn report_groups(
 ) -> Result<Frame, OutOfMemory>
     ensures { IfOk result (λ text. text ≡ groups_text script.now steps.now) }
 {
-    let names = NodeNames::of(alloc, script.scenario().nodes())?;
-    let entries = steps.as_slice();
     let mut text = Text::new(alloc);
-    answer_lines(alloc, &mut text, script.actions(), entries)?;
-    hearing_lines(alloc, &mut text, &names, entries)?;
-    put_summary(alloc, &mut text, entries)?;
+    put_groups(alloc, &mut text, script, steps)?;
     Ok(text.into_frame())
+}
+
+/// Writes the lines of [`report_groups`] at the end of a text. After `OutOfMemory` some of them may stand there.
+pub fn put_groups(
+    alloc: Global,
+    text: &mut Text,
+    script: &GroupScript,
+    steps: &GroupRecord,
+) -> Result<(), OutOfMemory>
+    ensures { OnOk result (text.new ≡ text.old ++ groups_text script.now steps.now) }
+{
+    let names = NodeNames::of(alloc, script.scenario().nodes())?;
+    answer_lines(alloc, text, script.actions(), steps.notes())?;
+    hearing_lines(text, &names, steps)?;
+    put_summary(alloc, text, steps)?;
+    Ok(())
 }
 
 #[cfg(test)]

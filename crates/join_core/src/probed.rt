@@ -65,6 +65,16 @@ impl Probed {
         self.items.iter().any(|probe| probe.0 == id)
     }
 
+    /// Whether this node was probed. It is looked for at a place first.
+    fn contains_by(&self, place: usize, id: Id) -> bool
+        ensures { result ≡ was_probed self.now id }
+    {
+        match self.items.get(place) {
+            Some(probe) if probe.0 == id => true,
+            _ => self.contains(id),
+        }
+    }
+
     /// Whether each has answered.
     pub fn all_answered(&self) -> bool
         ensures { result ≡ are_answered self.now }
@@ -78,8 +88,9 @@ impl Probed {
     {
         let leafs = leafs.as_slice();
         let mut more = IdsBuilder::new();
-        for leaf in leafs {
-            if !self.contains(*leaf) {
+        for (place, leaf) in leafs.iter().enumerate() {
+            // Leaves that stay were probed in leaf order, so each stands at its own place there, unless others came between.
+            if !self.contains_by(place, *leaf) {
                 more.push(*leaf);
             }
         }
@@ -92,7 +103,7 @@ impl Probed {
         ensures { IfOk result (λ probed. probed ≡ probed_with self.now sender more.now) }
     {
         let probes = self.as_slice();
-        let mut items = Vec::new(alloc);
+        let mut items = Vec::with_capacity(alloc, probes.len() + more.len())?;
         for probe in probes {
             items.push(with_answer(probe, sender))?;
         }

@@ -78,6 +78,10 @@ impl Knowledge {
         ensures stands { (known : List Id) → StandsFor self.old known → StandsFor self.new (learn_of self.old.leafs.me known id) }
         ensures answer { result ≡ (is_taken self.old.leafs self.new.leafs id || is_new self.old.table id) }
     {
+        // Most of what a node is told it knows, and an entry changes nothing when it is learnt again: so that is asked first.
+        if self.table.holds(id) {
+            return false;
+        }
         let on_side = self.leafs.learn(id);
         let in_table = self.table.learn(id);
         on_side || in_table

@@ -5,7 +5,7 @@ use Rattle.node_lines.specs.Commands.{Reading}
 use Rattle.node_lines.specs.Starts.{started_by}
 use Rattle.node_process.specs.Talk.{Talk, IsAnswered, AreAnswered, talk_at_start}
 use Rattle.node_process.specs.Texts.{done_line, refused_line}
-use Rattle.node_service.specs.Conversation.{AreGoneOn, AreLinesAnswered, IsGoneOn, IsLineAnswered, IsNamed, OpensWith}
+use Rattle.node_service.specs.Conversation.{AreGoneOn, AreLinesAnswered, IsLineAnswered, IsNamed, OpensWith}
 
 -- one line
 answered_one : (t : Talk) (line text : List ℕ) (u : Talk) → IsAnswered t line text u → AreAnswered t (line ∷ []) text u

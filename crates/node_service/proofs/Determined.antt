@@ -1,5 +1,5 @@
 -- There is one answer to lines.
-use Rattle.std.proofs.Common.{◌≡◌, ◌∙◌, ◌+◌, ℕ, List, [], ◌∷◌, ◌++◌, Option, Some, None, Ok, Err, ap, refl, subst, sym}
+use Rattle.std.proofs.Common.{◌≡◌, ◌∙◌, ℕ, List, [], ◌∷◌, ◌++◌, Option, Some, None, Ok, Err, ap, refl, subst, sym}
 use Rattle.std.specs.Prelude.{if◌then◌else◌}
 use Rattle.wire_codec.proofs.Frames.{one_envelope}
 use Rattle.weave_laws.specs.Cells.{CellInput, Command, Comes, Noise}

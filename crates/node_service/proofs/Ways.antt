@@ -1,5 +1,5 @@
 -- What follows from the calls of a service: on its way, and for the bytes of its source and its sink.
-use Rattle.std.proofs.Common.{◌≡◌, ◌∙◌, ◌+◌, ◌<◌, ℕ, suc, List, [], ◌∷◌, ◌++◌, Option, Some, None, Result, Ok, Err, OnOk, OnErr, IfErr, IfSome}
+use Rattle.std.proofs.Common.{◌≡◌, ◌∙◌, ◌+◌, ℕ, suc, List, [], ◌∷◌, ◌++◌, Option, Some, None, Result, Ok, Err, OnOk, OnErr, IfErr, IfSome}
 use Rattle.std.proofs.Common.{length, length-take, take, append-nil, append_assoc, ap, arith, refl, subst, sym}
 use Rattle.std.proofs.lemmas.Result.{IfErr-at_err, on_ok_weaker, on_err_weaker}
 use Rattle.outside.specs.declared.traits.Piece.{Piece}

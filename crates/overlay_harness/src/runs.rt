@@ -1,8 +1,8 @@
 //! A whole run.
 
-ghost use Rattle.std.specs.Prelude.{◌≡◌, ◌≤◌, IfErr, IfOk, IfNone, IfSome, None, OnOk, length};
+ghost use Rattle.std.specs.Prelude.{◌≡◌, ◌≤◌, All, IfErr, IfOk, IfNone, IfSome, None, OnOk, length};
 ghost use Rattle.overlay_harness.specs.Fault.{IsDueTo, first_unfit_line};
-ghost use Rattle.weave.specs.Cells.{histories};
+ghost use Rattle.weave.specs.Cells.{HasNoPasses, histories};
 ghost use Rattle.overlay_harness.specs.Run.{IsRunOf};
 ghost use Rattle.overlay_harness.specs.Stages.{stages_of};
 ghost use Rattle.overlay_harness.specs.Tested.{FailTheTest};
@@ -92,7 +92,8 @@ pub fn run_by_hand(alloc: Global, scenario: &Scenario) -> Result<Record, RunFaul
 
 /// The cells of a scenario, made anew, to which every stage was served by hand.
 pub fn cells_served_by_hand(alloc: Global, scenario: &Scenario) -> Result<Vec<NodeCell>, CellFault>
-    ensures { IfOk result (λ cells. HaveRun scenario.now cells.items) }
+    ensures run { IfOk result (λ cells. HaveRun scenario.now cells.items) }
+    ensures without { IfOk result (λ cells. All HasNoPasses cells.items) }
 {
     let all = stages(alloc, scenario)?;
     let mut cells = new_cells(alloc, scenario)?;

@@ -1,10 +1,15 @@
 //! Stages, lines that can't be run, and runs of small scenarios by hand and by threads. What is expected is read off the rules of
 //! the scenario language and of nodes.
 
-ghost use Rattle.std.specs.Prelude.{◌<◌};
+ghost use Rattle.std.specs.Prelude.{◌<◌, All};
+ghost use Rattle.weave.specs.Cells.{HasNoPasses, HaveOwnNodes};
 
 use crate::enough::came_at_most;
-use crate::{RunFault, first_unfit_line, run, run_by_hand, stages};
+use crate::hand::ends_after;
+use crate::{
+    RunFault, cells_served_by_hand, first_unfit_line, hand_over_unread, run, run_by_hand, stages,
+};
+use node_cell::{CellInput, NodeCell};
 use outside::{FreePass, Turnstile};
 use scenario_reader::read_scenario;
 use schedule::make_scenario;
@@ -33,6 +38,15 @@ const HURRIED: &[u8] =
 /// Noise comes to the first node twice in a stage of two copies, and to both in a stage of three.
 const NOISY: &[u8] =
     b"node A 10000000000000000000000000000000\nnode B 90000000000000000000000000000000\nfirst A\ndup 2\nnoise A 00\nnoise A -\nsettle 9\nnoise B 01\nnoise A 02\ndup 3\nsettle 9\n";
+
+/// Fifteen nodes join at once, and then each of them is told so again, one after another. Three files of the same bytes are stored
+/// at once, and then fetched at once. That makes 36 commands.
+const CROWDED: &[u8] =
+    b"node A 08000000000000000000000000000000\nnode B 18000000000000000000000000000000\nnode C 28000000000000000000000000000000\nnode D 38000000000000000000000000000000\nnode E 48000000000000000000000000000000\nnode F 58000000000000000000000000000000\nnode G 68000000000000000000000000000000\nnode H 78000000000000000000000000000000\nnode I 88000000000000000000000000000000\nnode J 98000000000000000000000000000000\nnode K a8000000000000000000000000000000\nnode L b8000000000000000000000000000000\nnode M c8000000000000000000000000000000\nnode N d8000000000000000000000000000000\nnode O e8000000000000000000000000000000\nnode P f8000000000000000000000000000000\nfile f 66 - 0000000000000000 616263\nfile g 67 - 0000000000000000 616263\nfile h 68 - 0000000000000000 616263\nfirst A\njoin B A\njoin C A\njoin D A\njoin E A\njoin F A\njoin G A\njoin H A\njoin I A\njoin J A\njoin K A\njoin L A\njoin M A\njoin N A\njoin O A\njoin P A\nsettle 2000\njoin B A\nsettle 2000\njoin C A\nsettle 2000\njoin D A\nsettle 2000\njoin E A\nsettle 2000\njoin F A\nsettle 2000\njoin G A\nsettle 2000\njoin H A\nsettle 2000\njoin I A\nsettle 2000\njoin J A\nsettle 2000\njoin K A\nsettle 2000\njoin L A\nsettle 2000\njoin M A\nsettle 2000\njoin N A\nsettle 2000\njoin O A\nsettle 2000\njoin P A\nsettle 2000\ninsert B f 1\ninsert G g 2\ninsert P h 3\nsettle 2000\nfetch P f\nfetch C g\nfetch K h\nsettle 2000\n";
+
+/// One node, which delivers two lookups to itself, and may take one frame.
+const LATE: &[u8] =
+    b"node A 10000000000000000000000000000000\nfirst A\nlookup A ff000000000000000000000000000000\nlookup A 01000000000000000000000000000000\nsettle 1\n";
 
 /// A shuffle, and then a deliver.
 const CHOOSING: &[u8] =
@@ -151,6 +165,77 @@ fn three_nodes_run_by_threads(rt: HostRuntime) -> Result<(), Fail> {
         steps.entries.len(),
         sent.saturating_mul(2).saturating_add(8)
     );
+    Ok(())
+}
+
+/// By another node, or by itself, since it is ready already.
+fn is_denied(note: &Note) -> bool {
+    matches!(
+        note,
+        Note::Closed {
+            answer: Answer::Denied { .. } | Answer::Stopped { .. },
+            ..
+        }
+    )
+}
+
+/// The bytes of the files in the crowded scenario are found.
+fn is_found_whole(note: &Note) -> bool {
+    match note {
+        Note::Closed {
+            answer: Answer::Reply(Reply::Found { bytes, .. }),
+            ..
+        } => bytes.as_slice() == b"abc".as_slice(),
+        _ => false,
+    }
+}
+
+/// Which joins are denied differs from run to run, and which node holds a file. Each node joins, by its first command or by its
+/// second, and its other one is denied; so all are ready. No message is left: there are as many entries as commands and messages.
+#[test]
+fn each_of_twenty_runs_answers_right(rt: HostRuntime) -> Result<(), Fail> {
+    let crowded = read_scenario(rt.alloc(), CROWDED)?;
+    for _ in 0..20 {
+        let steps = run(&rt, rt.alloc(), &crowded, &FreePass)?;
+        let notes = steps.entries.notes();
+        assert_eq!(rt; notes.iter().filter(|note| is_joined(note)).count(), 15);
+        assert_eq!(rt; notes.iter().filter(|note| is_denied(note)).count(), 15);
+        assert_eq!(rt; notes.iter().filter(|note| is_stored(note)).count(), 3);
+        assert_eq!(rt; notes.iter().filter(|note| is_found_whole(note)).count(), 3);
+        let sent = steps.entries.sent().len();
+        assert_eq!(rt; steps.entries.len(), sent.saturating_add(36));
+    }
+    Ok(())
+}
+
+/// How many entries the first node has, and the stamp of the entry that sent what came last to it.
+fn last_at_first(cells: &[NodeCell]) -> Option<(usize, u64)> {
+    let history = cells.first()?.history();
+    match &history.last()?.input {
+        CellInput::Comes(envelope) => Some((history.len(), envelope.stamp)),
+        CellInput::Command { .. } | CellInput::Noise => None,
+    }
+}
+
+/// Hands over what is left to each node, as if it might take nine frames more.
+fn hand_over_left(alloc: Global, cells: &mut [NodeCell]) -> Result<(), Fail>
+    requires apart { HaveOwnNodes cells.old }
+    requires without { All HasNoPasses cells.old }
+{
+    let ends = ends_after(alloc, cells, 9)?;
+    hand_over_unread(alloc, cells, &ends)?;
+    Ok(())
+}
+
+/// Two commands and the message of the first came. The message of the second is handed over, and nothing else.
+#[test]
+fn what_is_left_is_handed_over(rt: HostRuntime) -> Result<(), Fail> {
+    let late = read_scenario(rt.alloc(), LATE)?;
+    let _founder = late.founder();
+    let mut cells = cells_served_by_hand(rt.alloc(), &late)?;
+    assert_eq!(rt; last_at_first(&cells), Some((3, 1)));
+    hand_over_left(rt.alloc(), &mut cells)?;
+    assert_eq!(rt; last_at_first(&cells), Some((4, 2)));
     Ok(())
 }
 

@@ -1,20 +1,14 @@
 -- What is written of a trace and the verdict on it.
 use Rattle.std.specs.Prelude.{ℕ, ◌≤◌, List, ◌++◌, length, codes, decimal}
 use Rattle.trace_check.specs.declared.verdict.Part.{Part}
-use Rattle.trace_check.specs.declared.verdict.Part.TheVariants as part
 use Rattle.trace_check.specs.declared.verdict.Verdict.{Verdict}
 use Rattle.trace_check.specs.declared.verdict.Verdict.TheVariants as verdict
+use Rattle.trace_check.specs.Words.{part_word}
 use Rattle.course_picture.specs.declared.sizes.TheConstants.{MOST_ROWS}
 use Rattle.trace_picture.specs.Picture.{picture_text}
 use Rattle.trace_text.specs.Traces.{PlainTrace}
 use Rattle.pastry.specs.declared.verdict.Telling.{Telling}
 use Rattle.pastry.specs.declared.verdict.Telling.TheVariants as telling
-
--- a part of an entry by its word
-abbrev pub part_word : Part → List ℕ
-part_word part.Event = codes "event"
-part_word part.Sent = codes "sent"
-part_word part.Notes = codes "notes"
 
 -- a legal record: how many entries it has, and how many nodes are ready after the last
 abbrev pub legal_text : ℕ → ℕ → List ℕ

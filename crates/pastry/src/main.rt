@@ -90,6 +90,11 @@ fn seen_by(alloc: Global, words: &[RcStr]) -> Seen {
     }
 }
 
+/// Whether the words ask for a mode in which the nodes are threads.
+fn runs_threads(alloc: Global, words: &[RcStr]) -> bool {
+    matches!(read_words(alloc, words), Ok(Mode::Run | Mode::TraceRun))
+}
+
 /// What a run met: its words, what it saw of its input, and why its output failed.
 #[derive(Drop)]
 struct Met<'a> {
@@ -132,7 +137,7 @@ fn main(rt: HostRuntime) -> ExitCode {
         Ok(words) => words,
         Err(error) => return end_without_words(&rt, &error),
     };
-    let progress = Progress::new(&rt);
+    let progress = Progress::new(&rt, runs_threads(alloc, &words));
     expect_made(alloc, &words, &progress);
     let mut input = seen_by(alloc, &words);
     let mut output_fault = None;

@@ -23,6 +23,8 @@ enum Stage {
     Reading { bytes: u64 },
     /// The turns of a play, and how many it has at most, 0 if that is not known.
     Playing { turns: u64, most: u64 },
+    /// The turns of all threads of a run together, which is how often one of them looked for a message.
+    Running { turns: u64 },
 }
 
 impl fmt::Display for Stage {
@@ -38,6 +40,7 @@ impl fmt::Display for Stage {
                     Grouped(most)
                 )
             }
+            Stage::Running { turns } => write!(f, "{} turns of all threads", Grouped(turns)),
         }
     }
 }
@@ -56,10 +59,14 @@ pub(crate) struct Progress<'a> {
     told: AtomicU64,
     /// The most turns that the play has, 0 if that is not known.
     most: AtomicU64,
+    /// Whether the nodes are threads, each of which counts its own turns.
+    is_run: bool,
+    /// The turns of all threads so far.
+    turns: AtomicU64,
 }
 
 impl Progress<'_> {
-    pub(crate) fn new(rt: &HostRuntime) -> Progress<'_> {
+    pub(crate) fn new(rt: &HostRuntime, is_run: bool) -> Progress<'_> {
         let begun = if rt.stderr().is_terminal() {
             Instant::now(rt).ok()
         } else {
@@ -72,6 +79,8 @@ impl Progress<'_> {
             due: AtomicU64::new(PATIENCE),
             told: AtomicU64::new(0),
             most: AtomicU64::new(0),
+            is_run,
+            turns: AtomicU64::new(0),
         }
     }
 
@@ -116,11 +125,31 @@ impl Progress<'_> {
         let Some(gone) = self.gone() else {
             return;
         };
-        if gone >= self.due.load(Ordering::SeqCst) {
-            self.due
-                .store(gone.saturating_add(INTERVAL), Ordering::SeqCst);
+        if self.takes_due(gone) {
             self.told.store(1, Ordering::SeqCst);
             let _ = eprint!(self.rt; "\r\x1b[Kpastry: {stage}");
+        }
+    }
+
+    /// Whether it is time to tell. Of several threads that ask, one tells.
+    fn takes_due(&self, gone: u64) -> bool {
+        let due = self.due.load(Ordering::SeqCst);
+        let next = gone.saturating_add(INTERVAL);
+        gone >= due
+            && self
+                .due
+                .compare_exchange(due, next, Ordering::SeqCst, Ordering::SeqCst)
+                .is_ok()
+    }
+
+    /// Counts one turn of a thread, and tells how many there were, if that is due.
+    fn count_turn(&self) {
+        if !self.is_told() {
+            return;
+        }
+        let turns = self.turns.fetch_add(1, Ordering::SeqCst);
+        if turns % TURNS == 0 {
+            self.tell(Stage::Running { turns });
         }
     }
 
@@ -148,7 +177,9 @@ fn is_one_turn(action: &Action) -> bool {
 
 impl Turnstile for Progress<'_> {
     fn pass(&self, _node: usize, turn: u64) {
-        if turn % TURNS == 0 {
+        if self.is_run {
+            self.count_turn();
+        } else if turn % TURNS == 0 {
             self.tell(Stage::Playing {
                 turns: turn,
                 most: self.most.load(Ordering::SeqCst),

@@ -4,12 +4,12 @@ ghost use Rattle.std.specs.Prelude.{◌≡◌, ◌≤◌, length, IfOk};
 ghost use Rattle.overlay_rules.specs.Record.{IsSetting};
 ghost use Rattle.scenario_reader.specs.declared.limits.TheConstants.{MOST_NODES};
 ghost use Rattle.trace_text.specs.Traces.{plain_trace, setting_of};
-ghost use Rattle.pastry.specs.VerdictTexts.{part_word, told_by, verdict_text, IsDrawable};
+ghost use Rattle.pastry.specs.VerdictTexts.{told_by, verdict_text, IsDrawable};
 
 use ring_math::OutOfMemory;
 use std::alloc::Global;
 use text_writer::Text;
-use trace_check::{Part, Trace, Verdict};
+use trace_check::{Trace, Verdict};
 use trace_picture::picture;
 use wire_msg::Frame;
 
@@ -57,20 +57,9 @@ pub(crate) fn verdict_text(
         Verdict::Wrong { entry, part } => {
             text.number_after(b"wrong entry ", entry)?;
             text.put(b" ")?;
-            text.put(part_word(part))?;
+            text.put(part.word())?;
         }
     }
     text.put(b"\n")?;
     Ok(text.into_frame())
-}
-
-/// A part of an entry by its word.
-fn part_word(part: Part) -> &'static [u8]
-    ensures { result.now ≡ part_word part }
-{
-    match part {
-        Part::Event => b"event",
-        Part::Sent => b"sent",
-        Part::Notes => b"notes",
-    }
 }

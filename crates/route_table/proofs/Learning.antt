@@ -4,7 +4,7 @@ use Rattle.std.proofs.Common.{Some, None, refl, sym, ap, ◌∙◌, subst, arith
 use Rattle.std.specs.Prelude.{is_none}
 use Rattle.std.specs.Bool.{OnTrue, OnFalse}
 use Rattle.std.specs.Option.{option_or}
-use Rattle.std.proofs.lemmas.Bool.{cases_Bool, cond-true, cond-false, or_left, or_from, and_parts, and_from, eqb-true, eq-eqb}
+use Rattle.std.proofs.lemmas.Bool.{cases_Bool, cond-true, cond-false, or_left, or_right, or_from, and_parts, and_from, eqb-true, eq-eqb}
 use Rattle.std.proofs.lemmas.List.{get_or-set_same, get_or-set_other, length-set}
 use Rattle.std.proofs.lemmas.List.Folds.{find-append}
 use Rattle.ring_math.specs.declared.limits.TheConstants.{DIGITS, DIGIT_VALUES}
@@ -87,7 +87,27 @@ entry-first me y known r d other b none =
     let out = not_found (belongs me r d) known y none b in
     entry-new me y known r d (or_from (y == me) (is_in known y) other out) ∙ rw (none, b) refl
 
+-- who was found was learnt
+found : (p : ℕ → Bool) (xs : List ℕ) (y : ℕ) → find p xs ≡ Some y → is_in xs y ≡ true
+found p [] y e = cc
+found p (x ∷ xs) y e =
+    elim (cases_Bool (p x)) [
+      | inl t ↦
+          let some : find p (x ∷ xs) ≡ Some x = cond-true (p x) (Some x) (find p xs) t in
+          let same : x ≡ y = cc in or_left (x == y) (is_in xs y) (eq-eqb x y same)
+      | inr f ↦
+          let rest : find p xs ≡ Some y = sym (cond-false (p x) (Some x) (find p xs) f) ∙ e in
+          or_right (x == y) (is_in xs y) (found p xs y rest)
+    ]
+
 -- ---- the table
+
+-- an entry is learnt a second time without any effect
+pub learnt-before : (t : Table) (known : List ℕ) (y row col : ℕ) → StandsFor t known → row < DIGITS → col < DIGIT_VALUES → entry_in t row col ≡ Some y →
+    learn t.me known y ≡ known
+learnt-before t known y row col st hr hc some =
+    let there : is_in known y ≡ true = found (belongs t.me row col) known y (sym (st.entry row col hr hc) ∙ some) in
+    cond-true ((y == t.me) || is_in known y) known (known ++ y ∷ []) (or_right (y == t.me) (is_in known y) there)
 
 pub stands-me : (t : Table) (known : List ℕ) (y : ℕ) → StandsFor t known → y ≡ t.me → StandsFor t (learn t.me known y)
 stands-me t known y st e = record {

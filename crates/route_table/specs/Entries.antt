@@ -5,7 +5,7 @@ use Rattle.ring_math.specs.Names.{Id, Key}
 use Rattle.ring_math.specs.declared.limits.TheConstants.{DIGITS, DIGIT_VALUES}
 use Rattle.ring_math.specs.Ring.{digit_of, shared_of}
 use Rattle.ring_math.specs.Nearer.{improves}
-use Rattle.ring_math.specs.Sides.{entry_of}
+use Rattle.ring_math.specs.Sides.{entry_of, is_some_at}
 
 -- a node and its entries, one row after another: a row for each digit, and a column for each of its values
 pub record Table : Type 0 where
@@ -24,6 +24,10 @@ pub record StandsFor (t : Table) (known : List Id) : Type 0 where
 -- y is not the node, and the entry to which it belongs is empty
 abbrev pub is_new : Table → Id → Bool
 is_new t y = not (y == t.me) && is_none (entry_in t (shared_of t.me y) (digit_of y (shared_of t.me y)))
+
+-- y is not the node, and is the entry to which it belongs
+abbrev pub is_held : Table → Id → Bool
+is_held t y = not (y == t.me) && is_some_at y (entry_in t (shared_of t.me y) (digit_of y (shared_of t.me y)))
 
 -- the table with an entry
 abbrev pub with_entry : Table → ℕ → ℕ → Id → Table

@@ -2,14 +2,14 @@
 //! leading digits with the node and has digit d there (Pastry's routing table, Rowstron and Druschel 2001).
 #![tactic(auto)]
 
-ghost use Rattle.std.specs.Prelude.{◌≡◌, ◌≢◌, ◌<◌, ◌+◌, ◌*◌, ◌↔◌, List, [], is_none, MatchOption, IfOk, Some, Contains};
+ghost use Rattle.std.specs.Prelude.{◌≡◌, ◌≢◌, ◌<◌, ◌+◌, ◌*◌, ◌↔◌, List, [], is_none, IsTrue, MatchOption, IfOk, Some, Contains};
 ghost use Rattle.std.specs.Bool.{OnTrue, OnFalse};
 ghost use Rattle.ring_math.specs.Names.{Id};
 ghost use Rattle.ring_math.specs.Members.{IsClosest};
 ghost use Rattle.ring_math.specs.Nearer.{improves};
 ghost use Rattle.ring_math.specs.Ring.{dist_of, is_nearer};
 ghost use Rattle.ring_math.specs.Sides.{learn as learn_of};
-ghost use Rattle.route_table.specs.Entries.{StandsFor, Improves, entry_in, is_new, with_entry};
+ghost use Rattle.route_table.specs.Entries.{StandsFor, Improves, entry_in, is_held, is_new, with_entry};
 ghost use Rattle.route_table.specs.Filled.{entry_at as entry_at_of, entries_at};
 
 use ring_math::{DIGIT_VALUES, DIGITS, Id, OutOfMemory, cw, digit, dist, shared};
@@ -114,6 +114,22 @@ impl RouteTable {
         ensures { result ≡ entry_in self.now row col }
     {
         entry_at(self.me, self.ids[place_of(row, col)])
+    }
+
+    /// Whether an identifier is an entry. One that is was learnt before.
+    pub fn holds(&self, id: Id) -> bool
+        ensures held { result ≡ is_held self.now id }
+        ensures learnt { IsTrue result → (known : List Id) → StandsFor self.now known → learn_of self.now.me known id ≡ known }
+    {
+        let me = self.me();
+        if id == me {
+            return false;
+        }
+        let row = shared(me, id);
+        match self.entry(row, digit(id, row)) {
+            Some(entry) => entry == id,
+            None => false,
+        }
     }
 
     /// What stands at the places up to the last that is filled.

@@ -23,7 +23,7 @@ use Rattle.overlay_rules.specs.Ready.{IsReadyIn}
 use Rattle.overlay_rules.proofs.Each.{Each, Each-append, Each-contains, Each-from_all, Each-map, Each-slice_get, Each-weaker}
 use Rattle.step_facts.proofs.Messages.{MessagesHold}
 use Rattle.ring_laws.proofs.Hops.{hop_goes_nearer}
-use Rattle.scribe_core.specs.declared.entry.GroupEntry.{GroupEntry}
+use Rattle.scribe_core.specs.Entry.{GroupEntry}
 use Rattle.scribe_core.specs.declared.entry.GroupEvent.{GroupEvent}
 use Rattle.scribe_core.specs.declared.entry.GroupEvent.TheVariants as event
 use Rattle.scribe_core.specs.declared.message.GroupCommand.{GroupCommand}

@@ -11,7 +11,7 @@ use Rattle.overlay_rules.specs.Record.{Setting, IsSetting, World}
 use Rattle.overlay_rules.specs.Ready.{IsReadyIn, farther}
 use Rattle.step_facts.specs.ReadyCount.{ready_count}
 use Rattle.step_facts.proofs.Messages.{MessagesHold}
-use Rattle.scribe_core.specs.declared.entry.GroupEntry.{GroupEntry}
+use Rattle.scribe_core.specs.Entry.{GroupEntry}
 use Rattle.scribe_core.specs.declared.message.GroupMessage.TheVariants as message
 use Rattle.scribe_core.specs.declared.note.GroupNote.TheVariants as note
 use Rattle.scribe_core.specs.Parts.{GroupName, Part, Place, Loose, Root, Under, Orphan}
@@ -34,7 +34,7 @@ past_of_run overlay w (e ∷ es) = past_of_run overlay (after overlay w e) es �
 past_after : (overlay : World) (es : List GroupEntry) (i : ℕ) → (groups_after overlay es i).past ≡ take i es
 past_after overlay es i = past_of_run overlay no_groups (take i es)
 
-take_next : (es : List GroupEntry) (i : ℕ) (e : GroupEntry) → slice_get es i ≡ Some e → take (i + 1) es ≡ take i es ++ e ∷ []
+pub take_next : (es : List GroupEntry) (i : ℕ) (e : GroupEntry) → slice_get es i ≡ Some e → take (i + 1) es ≡ take i es ++ e ∷ []
 take_next es i e h =
     take_more es i e (slice_get_within es i e h) ∙ ap (λ (d : GroupEntry). take i es ++ d ∷ []) (get_or_from_slice_get es i e e h)
 

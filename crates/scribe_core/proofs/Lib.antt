@@ -1,4 +1,5 @@
 mod Keys
+mod Cut
 pub mod Facts
 pub mod Holding
 pub mod Overlay

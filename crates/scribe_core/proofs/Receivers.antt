@@ -11,7 +11,7 @@ use Rattle.overlay_rules.specs.Record.{Setting, IsRecord, IsSetting, World}
 use Rattle.overlay_rules.proofs.Each.{Each, Each-append, Each-contains, Each-itself, Each-map, Each-slice_get, Each-weaker}
 use Rattle.ring_laws.proofs.Hops.{hop_goes_nearer}
 use Rattle.step_facts.proofs.Messages.{MessagesHold}
-use Rattle.scribe_core.specs.declared.entry.GroupEntry.{GroupEntry}
+use Rattle.scribe_core.specs.Entry.{GroupEntry}
 use Rattle.scribe_core.specs.declared.message.GroupCommand.TheVariants as command
 use Rattle.scribe_core.specs.declared.message.GroupMessage.TheVariants as message
 use Rattle.scribe_core.specs.declared.message.GroupSent.{GroupSent}

@@ -10,7 +10,7 @@ use Rattle.overlay_rules.specs.Record.{Setting, World, world_at_start}
 use Rattle.overlay_rules.specs.Record.{run as run_overlay}
 use Rattle.overlay_rules.specs.Ready.{IsReadyIn}
 use Rattle.step_facts.specs.ReadyCount.{ready_count}
-use Rattle.scribe_core.specs.declared.entry.GroupEntry.{GroupEntry}
+use Rattle.scribe_core.specs.Entry.{GroupEntry}
 use Rattle.scribe_core.specs.declared.entry.GroupEvent.TheVariants as event
 use Rattle.scribe_core.specs.declared.message.GroupCommand.TheVariants as command
 use Rattle.scribe_core.specs.declared.message.GroupMessage.{GroupMessage}

@@ -1,7 +1,10 @@
 pub mod Parts
 pub mod Tree
 pub mod Step
+pub mod Entry
 pub mod Record
+pub mod Flat
+pub mod Seen
 pub mod Laws
 pub mod Played
 pub mod Actions

@@ -5,7 +5,7 @@ use Rattle.overlay_rules.specs.Record.{World}
 use Rattle.scribe_core.specs.declared.action.GroupAction.{GroupAction}
 use Rattle.scribe_core.specs.declared.action.GroupWhat.{GroupWhat}
 use Rattle.scribe_core.specs.declared.action.GroupWhat.TheVariants as what
-use Rattle.scribe_core.specs.declared.entry.GroupEntry.{GroupEntry}
+use Rattle.scribe_core.specs.Entry.{GroupEntry}
 use Rattle.scribe_core.specs.declared.entry.GroupEvent.{GroupEvent}
 use Rattle.scribe_core.specs.declared.entry.GroupEvent.TheVariants as event
 use Rattle.scribe_core.specs.Laws.{groups_in}

@@ -1,13 +1,14 @@
 -- Histories of groups over an overlay that no longer changes, and which of them can come. The overlay is a setting and a world, as
 -- some legal record has left it.
-use Rattle.std.specs.Prelude.{◌≡◌, ◌≢◌, ◌<◌, ℕ, ◌==◌, ◌&&◌, if◌then◌else◌, Option, Some, None, List, [], ◌∷◌, ◌++◌, map, slice_get, take, All, Contains}
+use Rattle.std.specs.Prelude.{◌≡◌, ◌≢◌, ◌<◌, ℕ, ◌==◌, ◌&&◌, if◌then◌else◌}
+use Rattle.std.specs.Prelude.{Option, Some, None, List, [], ◌∷◌, ◌++◌, flat_map, map, slice_get, take, All, Contains}
 use Rattle.std.specs.Str.{bytes_eq}
 use Rattle.ring_math.specs.Names.{Id, Number}
 use Rattle.ring_math.specs.Keys.{id_of}
 use Rattle.overlay_rules.specs.declared.request.Way.{Way}
 use Rattle.overlay_rules.specs.Record.{Setting, World}
 use Rattle.overlay_rules.specs.Routed.{way_of}
-use Rattle.scribe_core.specs.declared.entry.GroupEntry.{GroupEntry}
+use Rattle.scribe_core.specs.Entry.{GroupEntry}
 use Rattle.scribe_core.specs.declared.entry.GroupEvent.{GroupEvent}
 use Rattle.scribe_core.specs.declared.entry.GroupEvent.TheVariants as event
 use Rattle.scribe_core.specs.declared.message.GroupSent.{GroupSent}
@@ -23,6 +24,10 @@ way_in overlay x name = way_of (overlay.states x) (id_of name)
 abbrev pub sent_in : List GroupEntry → List GroupSent
 sent_in [] = []
 sent_in (e ∷ es) = e.messages ++ sent_in es
+
+-- all that was noted, in order
+abbrev pub notes_in : List GroupEntry → List GroupNote
+notes_in es = flat_map (λ (e : GroupEntry). e.notes) es
 
 -- the node and the group of an event, and what comes there
 pub record Visit : Type 0 where

@@ -1,7 +1,10 @@
-//! What happens in groups.
+//! What happens in groups, and entries of a record as they are read there.
 
-use crate::lists::{GroupNotes, GroupSends};
-use crate::message::GroupCommand;
+ghost use Rattle.std.specs.Prelude.{◌≡◌};
+ghost use Rattle.scribe_core.specs.Seen.{event_seen};
+
+use crate::message::{GroupCommand, GroupSent};
+use crate::note::GroupNote;
 use ring_math::Id;
 use scenario_reader::Name;
 
@@ -21,10 +24,45 @@ pub enum GroupEvent {
     },
 }
 
-/// An event, and what its node's step sent and noted.
-#[derive(Drop)]
-pub struct GroupEntry {
-    pub event: GroupEvent,
-    pub messages: GroupSends,
-    pub notes: GroupNotes,
+impl GroupEvent {
+    pub(crate) fn seen(&self) -> GroupEventRef<'_>
+        ensures { event_seen result ≡ self.now }
+    {
+        match self {
+            GroupEvent::Command {
+                node,
+                number,
+                group,
+                command,
+            } => GroupEventRef::Command {
+                node: *node,
+                number: *number,
+                group,
+                command,
+            },
+            GroupEvent::Deliver { message } => GroupEventRef::Deliver { message: *message },
+        }
+    }
+}
+
+/// An event of a record, as it is read there.
+#[derive(Clone, Copy)]
+pub enum GroupEventRef<'a> {
+    Command {
+        node: Id,
+        number: u64,
+        group: &'a Name,
+        command: &'a GroupCommand,
+    },
+    Deliver {
+        message: u64,
+    },
+}
+
+/// An entry of a record, as it is read there: an event, and what its node's step sent and noted.
+#[derive(Clone, Copy)]
+pub struct GroupEntryRef<'a> {
+    pub event: GroupEventRef<'a>,
+    pub messages: &'a [GroupSent],
+    pub notes: &'a [GroupNote],
 }

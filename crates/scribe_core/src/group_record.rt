@@ -1,48 +1,69 @@
 //! The record of all that happened in groups.
 
-ghost use Rattle.std.specs.Prelude.{◌≡◌, ◌++◌, ◌∷◌, [], OnOk};
+ghost use Rattle.std.specs.Prelude.{◌≡◌, ◌<◌, Some, length, slice_get, take};
+ghost use Rattle.scribe_core.specs.Record.{notes_in, sent_in};
+ghost use Rattle.scribe_core.specs.Seen.{entry_seen};
 
-use crate::entry::GroupEntry;
-use ring_math::OutOfMemory;
-use std::alloc::Global;
+use crate::entry::GroupEntryRef;
+use crate::flat::Lists;
+use crate::message::GroupSent;
+use crate::note::GroupNote;
 use std::marker::Model;
 
 /// Entries, in the order in which they happened.
 #[derive(Drop)]
 pub struct GroupRecord {
-    items: Vec<GroupEntry>,
+    pub(crate) lists: Lists,
 }
 
 impl Model for GroupRecord {
     ghost use Rattle.std.specs.Prelude.{List};
-    ghost use Rattle.scribe_core.specs.declared.entry.GroupEntry.{GroupEntry};
+    ghost use Rattle.scribe_core.specs.Entry.{GroupEntry};
+    ghost use Rattle.scribe_core.specs.Flat.{AreClosed, cut};
 
     ghost Value = { List GroupEntry };
 
-    ghost view = { λ a. a.items.items };
+    ghost view = { λ a. cut a.lists };
+
+    ghost invariant = { λ a. AreClosed a.lists };
 }
 
 impl GroupRecord {
-    /// Nothing has happened. It takes no memory.
-    pub fn new(alloc: Global) -> GroupRecord
-        ensures { result ≡ [] }
+    /// How many entries there are.
+    pub fn len(&self) -> usize
+        ensures { result ≡ length self.now }
     {
-        GroupRecord {
-            items: Vec::new(alloc),
-        }
+        self.lists.entries.len()
     }
 
-    pub fn as_slice(&self) -> &[GroupEntry]
-        ensures { result.now ≡ self.now }
+    /// The entry at a place.
+    pub fn at(&self, place: usize) -> GroupEntryRef<'_>
+        requires { place < length self.now }
+        ensures { slice_get self.now place ≡ Some (entry_seen result) }
     {
-        &self.items
+        self.lists.at(place)
     }
 
-    /// One entry more, behind the others.
-    pub fn push(&mut self, entry: GroupEntry) -> Result<(), OutOfMemory>
-        ensures { OnOk result (self.new ≡ self.old ++ entry ∷ []) }
+    /// All that was sent, in order: message n stands at n.
+    pub fn sent(&self) -> &[GroupSent]
+        ensures { result.now ≡ sent_in self.now }
     {
-        self.items.push(entry)?;
-        Ok(())
+        &self.lists.sent
+    }
+
+    /// All that was sent before the entry at a place, in order.
+    pub fn sent_before(&self, place: usize) -> &[GroupSent]
+        requires { place < length self.now }
+        ensures { result.now ≡ sent_in (take place self.now) }
+    {
+        let starts = self.lists.starts(place);
+        &self.lists.sent[..starts.sent]
+    }
+
+    /// All that was noted, in order.
+    pub fn notes(&self) -> &[GroupNote]
+        ensures { result.now ≡ notes_in self.now }
+    {
+        &self.lists.notes
     }
 }

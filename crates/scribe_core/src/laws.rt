@@ -5,7 +5,7 @@ ghost use Rattle.step_facts.specs.Setting.{setting};
 ghost use Rattle.scribe_core.specs.Laws.{CastsFollowGrafts, HeardOnce, MembersHear, ParentsAreNearer, RefusedOnlyWhere, WaysUpEnd, overlay_of};
 ghost use Rattle.scribe_core.specs.Record.{IsGroupRecord};
 
-use crate::entry::GroupEntry;
+use crate::group_record::GroupRecord;
 use overlay_rules::Entries;
 use ring_math::Id;
 
@@ -16,7 +16,7 @@ use ring_math::Id;
 /// hears it twice. Each parent is ready and nearer to the group's key, so the way up from each node ends, in fewer steps than
 /// there are ready nodes. A Cast goes only to a node that sent its sender a Graft before. A command is refused only where the
 /// node is not ready or keeps the group's key for a joiner.
-pub fn groups_law(nodes: &[Id], founder: Id, entries: &Entries, groups: &[GroupEntry])
+pub fn groups_law(nodes: &[Id], founder: Id, entries: &Entries, groups: &GroupRecord)
     requires setting { IsSetting (setting nodes.now founder) }
     requires legal { Legal (setting nodes.now founder) entries.now }
     requires groups { IsGroupRecord (setting nodes.now founder) (overlay_of (setting nodes.now founder) entries.now) groups.now }

@@ -6,19 +6,20 @@
 
 mod action;
 mod entry;
+mod flat;
 mod group_record;
 mod laws;
-mod lists;
 mod message;
 mod note;
+mod writer;
 
 pub use action::{GroupAction, GroupWhat};
-pub use entry::{GroupEntry, GroupEvent};
+pub use entry::{GroupEntryRef, GroupEvent, GroupEventRef};
 pub use group_record::GroupRecord;
 pub use laws::groups_law;
-pub use lists::{GroupNotes, GroupSends};
 pub use message::{GroupCommand, GroupMessage, GroupSent};
 pub use note::GroupNote;
+pub use writer::GroupWriter;
 
 #[cfg(test)]
 mod tests;

@@ -1,7 +1,10 @@
-//! What members of groups are told to do, and what nodes say to each other for it.
+//! What members of groups are told to do, and what nodes say to each other for it. In copies the bytes are shared.
 
-use ring_math::{Bytes, Id};
+ghost use Rattle.std.specs.Prelude.{◌≡◌, IfOk};
+
+use ring_math::{Bytes, Id, OutOfMemory};
 use scenario_reader::Name;
+use std::alloc::Global;
 
 /// What a node is told to do in a group.
 #[derive(Drop)]
@@ -12,6 +15,21 @@ pub enum GroupCommand {
     Leave,
     /// Send these bytes to all members.
     Publish { bytes: Bytes },
+}
+
+impl GroupCommand {
+    /// The same command.
+    pub fn copy(&self, alloc: Global) -> Result<GroupCommand, OutOfMemory>
+        ensures { IfOk result (λ copy. copy ≡ self.now) }
+    {
+        Ok(match self {
+            GroupCommand::Subscribe => GroupCommand::Subscribe,
+            GroupCommand::Leave => GroupCommand::Leave,
+            GroupCommand::Publish { bytes } => GroupCommand::Publish {
+                bytes: bytes.copy(alloc)?,
+            },
+        })
+    }
 }
 
 /// What one node says to another in a group.
@@ -27,6 +45,25 @@ pub enum GroupMessage {
     Cast { number: u64, bytes: Bytes },
 }
 
+impl GroupMessage {
+    fn copy(&self, alloc: Global) -> Result<GroupMessage, OutOfMemory>
+        ensures { IfOk result (λ copy. copy ≡ self.now) }
+    {
+        Ok(match self {
+            GroupMessage::Graft => GroupMessage::Graft,
+            GroupMessage::Prune => GroupMessage::Prune,
+            GroupMessage::Publish { number, bytes } => GroupMessage::Publish {
+                number: *number,
+                bytes: bytes.copy(alloc)?,
+            },
+            GroupMessage::Cast { number, bytes } => GroupMessage::Cast {
+                number: *number,
+                bytes: bytes.copy(alloc)?,
+            },
+        })
+    }
+}
+
 /// A message of a group.
 #[derive(Drop)]
 pub struct GroupSent {
@@ -34,4 +71,18 @@ pub struct GroupSent {
     pub receiver: Id,
     pub group: Name,
     pub message: GroupMessage,
+}
+
+impl GroupSent {
+    /// The same message.
+    pub fn copy(&self, alloc: Global) -> Result<GroupSent, OutOfMemory>
+        ensures { IfOk result (λ copy. copy ≡ self.now) }
+    {
+        Ok(GroupSent {
+            sender: self.sender,
+            receiver: self.receiver,
+            group: self.group.copy(),
+            message: self.message.copy(alloc)?,
+        })
+    }
 }

@@ -1,6 +1,6 @@
 //! The law has callers: group records that are legal by computation.
 
-use crate::{GroupCommand, GroupEntry, GroupEvent, GroupNote, GroupNotes, GroupSends, groups_law};
+use crate::{GroupCommand, GroupEvent, GroupNote, GroupWriter, groups_law};
 use overlay_rules::Entries;
 use ring_math::Id;
 use scenario_reader::Name;
@@ -9,24 +9,22 @@ use std::test::Fail;
 #[test]
 fn holds_of_no_entries(rt: HostRuntime) {
     let entries = Entries::new(rt.alloc());
-    groups_law(&[Id(7), Id(9)], Id(9), &entries, &[]);
+    let groups = GroupWriter::new(rt.alloc()).finish();
+    groups_law(&[Id(7), Id(9)], Id(9), &entries, &groups);
 }
 
 #[test]
 fn holds_of_a_node_that_is_not_ready(rt: HostRuntime) -> Result<(), Fail> {
     let group = Name::new(b"news").ok_or("no name")?;
-    let mut notes = GroupNotes::new(rt.alloc());
-    notes.push(GroupNote::Refused { number: 1 })?;
-    let groups = [GroupEntry {
-        event: GroupEvent::Command {
-            node: Id(7),
-            number: 1,
-            group,
-            command: GroupCommand::Subscribe,
-        },
-        messages: GroupSends::new(rt.alloc()),
-        notes,
-    }];
+    let mut writer = GroupWriter::new(rt.alloc());
+    writer.note(GroupNote::Refused { number: 1 })?;
+    writer.close(GroupEvent::Command {
+        node: Id(7),
+        number: 1,
+        group,
+        command: GroupCommand::Subscribe,
+    })?;
+    let groups = writer.finish();
     let entries = Entries::new(rt.alloc());
     groups_law(&[Id(7), Id(9)], Id(9), &entries, &groups);
     Ok(())

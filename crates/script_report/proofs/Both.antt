@@ -8,7 +8,7 @@ use Rattle.play_engine.proofs.Starting.{same_setting}
 use Rattle.play_engine.proofs.Wholes.{legal_record, whole_record}
 use Rattle.scenario_reader.specs.Plain.{PlainScenario, ids}
 use Rattle.schedule.specs.Schedule.{setting_of}
-use Rattle.scribe_core.specs.declared.entry.GroupEntry.{GroupEntry}
+use Rattle.scribe_core.specs.Entry.{GroupEntry}
 use Rattle.scribe_core.specs.Laws.{overlay_of}
 use Rattle.scribe_core.specs.Played.{played}
 use Rattle.scribe_core.specs.Record.{IsGroupRecord}

@@ -5,7 +5,7 @@ use Rattle.overlay_rules.specs.declared.entry.Record.{Record}
 use Rattle.overlay_rules.specs.Record.{IsRecord, Setting, World}
 use Rattle.scenario_reader.specs.Plain.{PlainScenario}
 use Rattle.schedule.specs.Schedule.{setting_of}
-use Rattle.scribe_core.specs.declared.entry.GroupEntry.{GroupEntry}
+use Rattle.scribe_core.specs.Entry.{GroupEntry}
 use Rattle.scribe_core.specs.Laws.{CastsFollowGrafts, HeardOnce, MembersHear, ParentsAreNearer, RefusedOnlyWhere, WaysUpEnd, overlay_of}
 use Rattle.scribe_core.specs.Played.{played}
 use Rattle.scribe_core.specs.Record.{IsGroupRecord}

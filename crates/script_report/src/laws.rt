@@ -47,5 +47,5 @@ fn all_laws(nodes: &[Id], founder: Id, entries: &Entries, steps: &GroupRecord)
     requires groups { IsGroupRecord (setting nodes.now founder) (overlay_of (setting nodes.now founder) entries.now) steps.now }
     ensures { KeepsLaws (setting nodes.now founder) (overlay_of (setting nodes.now founder) entries.now) steps.now }
 {
-    groups_law(nodes, founder, entries, steps.as_slice());
+    groups_law(nodes, founder, entries, steps);
 }

@@ -9,7 +9,7 @@ mod laws;
 use crate::laws::{PlayedGroups, play_both};
 use delivery_report::report;
 use group_reader::GroupScript;
-use group_report::report_groups;
+use group_report::put_groups;
 use outside::Turnstile;
 use overlay_rules::Record;
 use ring_math::OutOfMemory;
@@ -36,7 +36,7 @@ pub fn play_script<T: Turnstile>(
     let PlayedGroups { record, steps } = play_both(alloc, script, turnstile)?;
     let mut text = Text::new(alloc);
     text.put(report(alloc, script.scenario(), &record)?.as_slice())?;
-    text.put(report_groups(alloc, script, &steps)?.as_slice())?;
+    put_groups(alloc, &mut text, script, &steps)?;
     Ok(PlayedScript {
         record,
         text: text.into_frame(),

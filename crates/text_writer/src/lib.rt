@@ -2,8 +2,8 @@
 //! buffer.
 #![tactic(auto)]
 
-ghost use Rattle.std.specs.Prelude.{◌≡◌, ◌++◌, [], decimal, OnOk};
-ghost use Rattle.hex.specs.Hex.{encode_lower};
+ghost use Rattle.std.specs.Prelude.{◌≡◌, ◌<◌, ◌*◌, ◌++◌, [], decimal, length, slice_index, OnOk};
+ghost use Rattle.hex.specs.Hex.{encode_lower, lower_digits};
 ghost use Rattle.ring_math.specs.Texts.{text_of};
 
 use itoa::Buffer;
@@ -83,7 +83,7 @@ impl Text {
         let room = bytes.len().checked_mul(2).ok_or(OutOfMemory)?;
         let end = start.checked_add(room).ok_or(OutOfMemory)?;
         self.bytes.resize(end, 0)?;
-        hex::encode_to_slice(bytes, &mut self.bytes[start..]).unwrap();
+        put_digits(bytes, &mut self.bytes[start..]);
         Ok(())
     }
 
@@ -92,6 +92,30 @@ impl Text {
         ensures { result ≡ self }
     {
         Frame::from(self.bytes)
+    }
+}
+
+/// The digit of a value, in lower case. It is computed and not looked up, so that many are made at once.
+fn digit(value: u8) -> u8
+    requires { value < 16 }
+    ensures { result ≡ slice_index lower_digits value }
+{
+    if value < 10 {
+        b'0' + value
+    } else {
+        b'a' - 10 + value
+    }
+}
+
+/// Two digits for each byte, the high four bits first.
+fn put_digits(bytes: &[u8], digits: &mut [u8])
+    requires { length digits.old ≡ 2 * length bytes.now }
+    ensures { digits.new ≡ encode_lower bytes.now }
+{
+    for place in 0..bytes.len() {
+        let byte = bytes[place];
+        digits[2 * place] = digit(byte / 16);
+        digits[2 * place + 1] = digit(byte % 16);
     }
 }
 

@@ -1,5 +1,8 @@
 //! What the check of a record answers.
 
+ghost use Rattle.std.specs.Prelude.{◌≡◌};
+ghost use Rattle.trace_check.specs.Words.{part_word};
+
 /// What the check of a record answers.
 #[derive(Clone, Copy, Debug, PartialEq, Eq)]
 pub enum Verdict {
@@ -19,4 +22,17 @@ pub enum Part {
     Sent,
     /// The notes are not those that the step makes.
     Notes,
+}
+
+impl Part {
+    /// The word for a part: `event`, `sent` or `notes`.
+    pub fn word(self) -> &'static [u8]
+        ensures { result.now ≡ part_word self }
+    {
+        match self {
+            Part::Event => b"event",
+            Part::Sent => b"sent",
+            Part::Notes => b"notes",
+        }
+    }
 }

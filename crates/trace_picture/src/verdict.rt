@@ -2,7 +2,7 @@
 
 ghost use Rattle.std.specs.Prelude.{◌≡◌, ◌++◌, OnOk};
 ghost use Rattle.svg_text.specs.Picture.{text_of};
-ghost use Rattle.trace_picture.specs.Verdicts.{part_text, verdict_picture, wrong_words};
+ghost use Rattle.trace_picture.specs.Verdicts.{verdict_picture, wrong_words};
 
 use ring_math::OutOfMemory;
 use std::alloc::Global;
@@ -23,27 +23,17 @@ pub(crate) fn put_verdict(
         Verdict::Legal { .. } => put_words(text, Class::Label, at, b"legal"),
         Verdict::Wrong { entry, part } => {
             let mut words = Text::new(alloc);
-            put_wrong(&mut words, *entry, part)?;
+            put_wrong(&mut words, *entry, *part)?;
             put_words(text, Class::Wrong, at, words.into_frame().as_slice())
         }
     }
 }
 
 /// Which entry is wrong, and what of it.
-fn put_wrong(words: &mut Text, entry: u64, part: &Part) -> Result<(), OutOfMemory>
-    ensures { OnOk result (words.new ≡ words.old ++ wrong_words entry part.now) }
+fn put_wrong(words: &mut Text, entry: u64, part: Part) -> Result<(), OutOfMemory>
+    ensures { OnOk result (words.new ≡ words.old ++ wrong_words entry part) }
 {
     words.number_after(b"wrong entry ", entry)?;
     words.put(b" ")?;
-    put_part(words, part)
-}
-
-fn put_part(words: &mut Text, part: &Part) -> Result<(), OutOfMemory>
-    ensures { OnOk result (words.new ≡ words.old ++ part_text part.now) }
-{
-    match part {
-        Part::Event => words.put(b"event"),
-        Part::Sent => words.put(b"sent"),
-        Part::Notes => words.put(b"notes"),
-    }
+    words.put(part.word())
 }

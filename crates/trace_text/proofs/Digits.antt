@@ -1,6 +1,7 @@
 -- Digits of hexadecimal in lower case, and decimal digits: what is written is read, and what is read was written so.
 use Rattle.std.proofs.Common.{◌≡◌, ℕ, suc, ◌+◌, ◌*◌, ◌/◌, ◌%◌, ◌<◌, Bool, true, false, cond, ◌&&◌, eqb, List, [], ◌∷◌}
-use Rattle.std.proofs.Common.{length}
+use Rattle.std.proofs.Common.{zero, ◌++◌, ◌≤◌, length, take, slice_set, append_assoc}
+use Rattle.std.proofs.lemmas.List.{take_all, take_more, take_more_set}
 use Rattle.std.proofs.Common.{slice_index, Option, Some, None, unwrap_or, Result, Ok, Err, refl, sym, ap, subst, ◌∙◌, arith}
 use Rattle.std.specs.Prelude.{nat_lt, MatchResult}
 use Rattle.std.specs.List.{list_all}
@@ -13,8 +14,8 @@ use Rattle.hex.proofs.HexLemmas.{length-encode_with, decode_sized-encode_lower, 
 use Rattle.hex.proofs.Pairs.{cons_byte, decode_pairs-ok_pair, decode_sized-pairs}
 use Rattle.wire_codec.specs.Fields.{AreBytes}
 use Rattle.trace_text.specs.Digits.{is_lower_digit, AreDigitsOf}
-use Rattle.trace_text.proofs.Bytes.{AreBytes-none, AreBytes-more}
-use Rattle.trace_text.proofs.Tables.{all_below-at}
+use Rattle.trace_text.proofs.Bytes.{AreBytes-none, AreBytes-more, AreBytes-append}
+use Rattle.text_writer.proofs.Tables.{all_below-at}
 
 -- ---- one digit
 
@@ -145,3 +146,67 @@ decoded_err (Err e) out r f err value = let both : (Err e) ≡ (Err f) = sym val
 
 pub digits_size : (text bytes : List ℕ) → AreDigitsOf text bytes → length text ≡ 2 * length bytes
 digits_size text bytes digits = ap length digits.text_is ∙ length-encode_with lower_digits bytes
+
+-- ---- pairs of digits, read one after another
+
+encoded_then : (xs ys : List ℕ) → encode_lower (xs ++ ys) ≡ encode_lower xs ++ encode_lower ys
+unfolding encode_with
+encoded_then [] ys = refl
+encoded_then (x ∷ xs) ys =
+    ap (λ (t : List ℕ). slice_index lower_digits (x / 16) ∷ slice_index lower_digits (x % 16) ∷ t) (encoded_then xs ys)
+
+encoded_one : (x : ℕ) → encode_lower (x ∷ []) ≡ slice_index lower_digits (x / 16) ∷ slice_index lower_digits (x % 16) ∷ []
+unfolding encode_with
+encoded_one x = refl
+
+two_more : (text : List ℕ) (i : ℕ) → 2 * i + 1 < length text →
+    take (2 * (i + 1)) text ≡ take (2 * i) text ++ (slice_index text (2 * i) ∷ slice_index text (2 * i + 1) ∷ [])
+two_more text i within =
+    let two : 2 * (i + 1) ≡ 2 * i + 1 + 1 = omega arith in
+    ap (λ (n : ℕ). take n text) two ∙ take_more text (2 * i + 1) 0 within
+    ∙ ap (λ (t : List ℕ). t ++ slice_index text (2 * i + 1) ∷ []) (take_more text (2 * i) 0 (omega arith))
+    ∙ append_assoc (take (2 * i) text) (slice_index text (2 * i) ∷ []) (slice_index text (2 * i + 1) ∷ [])
+
+-- no digit yet
+pub no_digits : (text bytes : List ℕ) → AreDigitsOf (take 0 text) (take 0 bytes)
+unfolding encode_with
+no_digits text bytes = record { text_is = refl; are_bytes = AreBytes-none }
+
+-- one pair more
+pub pair_more : (text bytes : List ℕ) (i high low value : ℕ) → 2 * i + 1 < length text → i < length bytes → high < 16 → low < 16 →
+    slice_index lower_digits high ≡ slice_index text (2 * i) → slice_index lower_digits low ≡ slice_index text (2 * i + 1) → value ≡ high * 16 + low →
+    AreDigitsOf (take (2 * i) text) (take i bytes) → AreDigitsOf (take (2 * (i + 1)) text) (take (i + 1) (slice_set bytes i value))
+pair_more text bytes i high low value within room high_small low_small high_is low_is value_is before =
+    let one = encoded_one value in
+    let high_told : value / 16 ≡ high = omega arith in
+    let low_told : value % 16 ≡ low = omega arith in
+    let pair : slice_index text (2 * i) ∷ slice_index text (2 * i + 1) ∷ [] ≡ encode_lower (value ∷ []) =
+    sym (one ∙ ap (λ (d : ℕ). slice_index lower_digits d ∷ slice_index lower_digits (value % 16) ∷ []) high_told
+    ∙ ap (λ (d : ℕ). slice_index lower_digits high ∷ slice_index lower_digits d ∷ []) low_told
+    ∙ ap (λ (d : ℕ). d ∷ slice_index lower_digits low ∷ []) high_is
+    ∙ ap (λ (d : ℕ). slice_index text (2 * i) ∷ d ∷ []) low_is) in
+    let read : AreDigitsOf (take (2 * (i + 1)) text) (take i bytes ++ value ∷ []) = record {
+      text_is = two_more text i within ∙ ap (λ (t : List ℕ). take (2 * i) text ++ t) pair
+          ∙ ap (λ (t : List ℕ). t ++ encode_lower (value ∷ [])) before.text_is
+          ∙ sym (encoded_then (take i bytes) (value ∷ []));
+      are_bytes = AreBytes-append (take i bytes) (value ∷ []) before.are_bytes (AreBytes-more value [] (omega arith) AreBytes-none);
+    } in
+    subst (AreDigitsOf (take (2 * (i + 1)) text)) (sym (take_more_set bytes i value room)) read
+
+-- all pairs
+pub pairs_done : (text bytes : List ℕ) (i : ℕ) → length text ≡ 2 * length bytes → length bytes ≤ i → AreDigitsOf (take (2 * i) text) (take i bytes) →
+    AreDigitsOf text bytes
+pairs_done text bytes i twice past read =
+    subst (AreDigitsOf text) (take_all i bytes past)
+    (subst (λ (t : List ℕ). AreDigitsOf t (take i bytes)) (take_all (2 * i) text (omega arith)) read)
+
+pub digit_at : (text : List ℕ) (i : ℕ) → i < length text → list_all is_lower_digit text ≡ true → is_lower_digit (slice_index text i) ≡ true
+digit_at [] i within lower = absurd (omega arith)
+digit_at (x ∷ xs) zero within lower = (and_parts (is_lower_digit x) (list_all is_lower_digit xs) lower).0
+digit_at (x ∷ xs) (suc i) within lower = digit_at xs i (omega arith) (and_parts (is_lower_digit x) (list_all is_lower_digit xs) lower).1
+
+-- an odd number of digits is that of no bytes
+pub odd_digits : (text bytes : List ℕ) → (length text % 2 ≡ 0 → ⊥) → AreDigitsOf text bytes → ⊥
+odd_digits text bytes odd digits =
+    let size : length text ≡ 2 * length bytes = ap length digits.text_is ∙ length-encode_with lower_digits bytes in
+    odd (omega (arith, size))

@@ -1,5 +1,4 @@
 pub mod Cuts
-pub mod Tables
 pub mod Bytes
 pub mod Digits
 pub mod Ids

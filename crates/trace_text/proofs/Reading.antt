@@ -12,10 +12,9 @@ use Rattle.trace_text.specs.declared.fault.Refusal.{Refusal}
 use Rattle.trace_text.specs.declared.fault.Refusal.TheVariants as refusal
 use Rattle.trace_text.specs.declared.fault.TraceFault.{TraceFault}
 use Rattle.trace_text.specs.declared.fault.TraceFault.TheVariants as fault
-use Rattle.trace_text.specs.declared.front.Front.{Front as CodeFront}
 use Rattle.trace_text.specs.Answers.{Fails, Finds, Gives}
 use Rattle.trace_text.specs.Digits.{lacks}
-use Rattle.trace_text.specs.Fronts.{Front, Nothing, End, lines_of, after, plain_front, IsNext, Begins, AreFounded, IsWhole, IsFault}
+use Rattle.trace_text.specs.Fronts.{Front, Nothing, End, lines_of, after, IsNext, Begins, AreFounded, IsWhole, IsFault}
 use Rattle.trace_text.specs.Fronts.{IsLineFault, fault_at}
 use Rattle.trace_text.specs.Lines.{Line, Node, FitsLine, IsLine, line_text, ended, text_of_lines}
 use Rattle.trace_text.specs.declared.trace.Trace.{Trace as CodeTrace}
@@ -26,14 +25,14 @@ use Rattle.trace_text.proofs.Spelled.{line_lacks, line_told}
 
 -- ---- the next line
 
-pub next_found : (f : Front) (text : List ℕ) (l : Line) (r : Result CodeFront Refusal) → IsLine text l → Gives plain_front r (after f l) →
-    Finds plain_front (IsNext f text) r
-next_found f text l (Ok g) is given = record { line_is = l; is = is; after_is = given }
-next_found f text l (Err refusal.NotAllowed) is given = λ g next.
+pub next_found : {X : Type 0} (view : X → Front) (f : Front) (text : List ℕ) (l : Line) (r : Result X Refusal) → IsLine text l →
+    Gives view r (after f l) → Finds view (IsNext f text) r
+next_found view f text l (Ok g) is given = record { line_is = l; is = is; after_is = given }
+next_found view f text l (Err refusal.NotAllowed) is given = λ g next.
     let same : after f l ≡ Some g = ap (after f) (line_told text l next.line_is is next.is) ∙ next.after_is in
     let both : None ≡ (Some g) = sym given ∙ same in
     cc
-next_found f text l (Err refusal.OutOfMemory) is given = tt
+next_found view f text l (Err refusal.OutOfMemory) is given = tt
 
 -- ---- a front and the rest
 

@@ -5,7 +5,9 @@ ghost use Rattle.trace_text.specs.Answers.{Gives};
 ghost use Rattle.trace_text.specs.Fronts as fronts;
 ghost use Rattle.trace_text.specs.Fronts.{after, begun, plain_front, with_founder, with_node};
 ghost use Rattle.trace_text.specs.Traces.{trace_of};
+ghost use Rattle.trace_text.specs.Lines as lines;
 ghost use Rattle.trace_text.specs.Lines.{plain_line};
+ghost use Rattle.wire_msg.specs.Words.{plain_envelope};
 
 use crate::fault::Refusal;
 use crate::line::Line;
@@ -14,7 +16,8 @@ use overlay_rules::{Entries, Entry, Event, Record};
 use ring_math::Id;
 use scenario_reader::MOST_NODES;
 use std::alloc::Global;
-use wire_msg::{Envelopes, Notes};
+use std::mem;
+use wire_msg::{Envelope, Envelopes, Note, Notes};
 
 /// What was read so far.
 #[derive(Drop)]
@@ -40,54 +43,156 @@ pub(crate) enum Front {
 }
 
 impl Front {
-    /// The front with one line more.
-    pub(crate) fn with_line(self, alloc: Global, line: Line) -> Result<Front, Refusal>
-        ensures { Gives plain_front result (after (plain_front self) (plain_line line)) }
+    /// One line more. After an error the front is of no more use.
+    pub(crate) fn add(&mut self, alloc: Global, line: Line) -> Result<(), Refusal>
+        ensures { Gives (λ _. plain_front self.new) result (after (plain_front self.old) (plain_line line)) }
+    {
+        match line {
+            Line::Trace => self.add_format(alloc),
+            Line::Node(node) => self.add_node(node),
+            Line::Founder(founder) => self.add_founder(founder),
+            Line::Event(event) => self.add_event(alloc, event),
+            Line::Sent(envelope) => self.add_sent(envelope),
+            Line::Note(note) => self.add_note(note),
+            Line::End { skipped } => self.end(alloc, skipped),
+        }
+    }
+
+    /// The line of the format.
+    fn add_format(&mut self, alloc: Global) -> Result<(), Refusal>
+        ensures { Gives (λ _. plain_front self.new) result (after (plain_front self.old) lines.Trace) }
     {
         match self {
-            Front::Nothing => first(alloc, line),
-            Front::Nodes(nodes) => behind_nodes(nodes, line),
-            Front::Founder { nodes, founder } => behind_founder(alloc, nodes, founder, line),
+            Front::Nothing => {
+                *self = Front::Nodes(Nodes::new(alloc));
+                Ok(())
+            }
+            _ => Err(Refusal::NotAllowed),
+        }
+    }
+
+    /// A node more.
+    fn add_node(&mut self, node: Id) -> Result<(), Refusal>
+        ensures { Gives (λ _. plain_front self.new) result (after (plain_front self.old) (lines.Node node)) }
+    {
+        match self {
+            Front::Nodes(nodes) => add_to(nodes, node),
+            _ => Err(Refusal::NotAllowed),
+        }
+    }
+
+    /// The founder, behind the nodes.
+    fn add_founder(&mut self, founder: Id) -> Result<(), Refusal>
+        ensures { Gives (λ _. plain_front self.new) result (after (plain_front self.old) (lines.Founder founder)) }
+    {
+        let front = mem::replace(self, Front::Nothing);
+        *self = front.founded(founder)?;
+        Ok(())
+    }
+
+    fn founded(self, founder: Id) -> Result<Front, Refusal>
+        ensures { Gives plain_front result (after (plain_front self) (lines.Founder founder)) }
+    {
+        match self {
+            Front::Nodes(nodes) => with_founder(nodes, founder),
+            _ => Err(Refusal::NotAllowed),
+        }
+    }
+
+    /// The event with which an entry begins. The entry before it, if there is one, is whole.
+    fn add_event(&mut self, alloc: Global, event: Event) -> Result<(), Refusal>
+        ensures { Gives (λ _. plain_front self.new) result (after (plain_front self.old) (lines.Event event)) }
+    {
+        match self {
+            Front::Founder { nodes, founder } => {
+                let nodes = mem::replace(nodes, Nodes::new(alloc));
+                let founder = *founder;
+                *self = Front::Entries {
+                    nodes,
+                    founder,
+                    whole: Entries::new(alloc),
+                    last: begun(alloc, event),
+                };
+                Ok(())
+            }
+            Front::Entries { whole, last, .. } => {
+                let before = mem::replace(last, begun(alloc, event));
+                whole.push(before)?;
+                Ok(())
+            }
+            _ => Err(Refusal::NotAllowed),
+        }
+    }
+
+    /// A message that the last entry sent.
+    fn add_sent(&mut self, envelope: Envelope) -> Result<(), Refusal>
+        ensures { Gives (λ _. plain_front self.new) result (after (plain_front self.old) (lines.Sent (plain_envelope envelope))) }
+    {
+        match self {
+            Front::Entries { last, .. } => {
+                if !last.notes.as_slice().is_empty() {
+                    return Err(Refusal::NotAllowed);
+                }
+                last.messages.push(envelope)?;
+                Ok(())
+            }
+            _ => Err(Refusal::NotAllowed),
+        }
+    }
+
+    /// A note of the last entry.
+    fn add_note(&mut self, note: Note) -> Result<(), Refusal>
+        ensures { Gives (λ _. plain_front self.new) result (after (plain_front self.old) (lines.Note note)) }
+    {
+        match self {
+            Front::Entries { last, .. } => {
+                last.notes.push(note)?;
+                Ok(())
+            }
+            _ => Err(Refusal::NotAllowed),
+        }
+    }
+
+    /// The line behind all entries.
+    fn end(&mut self, alloc: Global, skipped: u64) -> Result<(), Refusal>
+        ensures { Gives (λ _. plain_front self.new) result (after (plain_front self.old) (lines.End skipped)) }
+    {
+        let front = mem::replace(self, Front::Nothing);
+        *self = front.ended(alloc, skipped)?;
+        Ok(())
+    }
+
+    fn ended(self, alloc: Global, skipped: u64) -> Result<Front, Refusal>
+        ensures { Gives plain_front result (after (plain_front self) (lines.End skipped)) }
+    {
+        match self {
+            Front::Founder { nodes, founder } => {
+                Ok(whole_trace(nodes, founder, Entries::new(alloc), skipped))
+            }
             Front::Entries {
                 nodes,
                 founder,
                 whole,
                 last,
-            } => behind_entry(alloc, nodes, founder, whole, last, line),
-            Front::End(_) => Err(Refusal::NotAllowed),
+            } => {
+                let mut entries = whole;
+                entries.push(last)?;
+                Ok(whole_trace(nodes, founder, entries, skipped))
+            }
+            _ => Err(Refusal::NotAllowed),
         }
     }
 }
 
-fn first(alloc: Global, line: Line) -> Result<Front, Refusal>
-    ensures { Gives plain_front result (after fronts.Nothing (plain_line line)) }
-{
-    match line {
-        Line::Trace => Ok(Front::Nodes(Nodes::new(alloc))),
-        _ => Err(Refusal::NotAllowed),
-    }
-}
-
-/// A node more, or the founder.
-fn behind_nodes(nodes: Nodes, line: Line) -> Result<Front, Refusal>
-    ensures { Gives plain_front result (after (fronts.Nodes nodes) (plain_line line)) }
-{
-    match line {
-        Line::Node(node) => with_node(nodes, node),
-        Line::Founder(founder) => with_founder(nodes, founder),
-        _ => Err(Refusal::NotAllowed),
-    }
-}
-
-fn with_node(nodes: Nodes, node: Id) -> Result<Front, Refusal>
-    ensures { Gives plain_front result (with_node nodes node) }
+/// A node more, if it is another than these and there may be one more.
+fn add_to(nodes: &mut Nodes, node: Id) -> Result<(), Refusal>
+    ensures { Gives (λ _. fronts.Nodes nodes.new) result (with_node nodes.old node) }
 {
     if nodes.as_slice().len() >= MOST_NODES || nodes.as_slice().contains(&node) {
         return Err(Refusal::NotAllowed);
     }
-    let mut nodes = nodes;
     nodes.push(node)?;
-    Ok(Front::Nodes(nodes))
+    Ok(())
 }
 
 fn with_founder(nodes: Nodes, founder: Id) -> Result<Front, Refusal>
@@ -111,68 +216,12 @@ fn begun(alloc: Global, event: Event) -> Entry
     }
 }
 
-/// The first event, or the end.
-fn behind_founder(alloc: Global, nodes: Nodes, founder: Id, line: Line) -> Result<Front, Refusal>
-    ensures { Gives plain_front result (after (fronts.Founder nodes founder) (plain_line line)) }
-{
-    let whole = Entries::new(alloc);
-    match line {
-        Line::Event(event) => Ok(Front::Entries {
-            nodes,
-            founder,
-            whole,
-            last: begun(alloc, event),
-        }),
-        Line::End { skipped } => Ok(ended(nodes, founder, whole, skipped)),
-        _ => Err(Refusal::NotAllowed),
-    }
-}
-
-fn ended(nodes: Nodes, founder: Id, entries: Entries, skipped: u64) -> Front
+fn whole_trace(nodes: Nodes, founder: Id, entries: Entries, skipped: u64) -> Front
     ensures { plain_front result ≡ fronts.End (trace_of nodes founder entries skipped) }
 {
     Front::End(Trace {
         nodes,
         founder,
         steps: Record { entries, skipped },
-    })
-}
-
-/// A part more of the last entry, the next event, or the end.
-fn behind_entry(
-    alloc: Global,
-    nodes: Nodes,
-    founder: Id,
-    whole: Entries,
-    last: Entry,
-    line: Line,
-) -> Result<Front, Refusal>
-    ensures { Gives plain_front result (after (fronts.Entries nodes founder whole last) (plain_line line)) }
-{
-    let mut whole = whole;
-    let mut last = last;
-    match line {
-        Line::Event(event) => {
-            whole.push(last)?;
-            last = begun(alloc, event);
-        }
-        Line::Sent(envelope) => {
-            if !last.notes.as_slice().is_empty() {
-                return Err(Refusal::NotAllowed);
-            }
-            last.messages.push(envelope)?;
-        }
-        Line::Note(note) => last.notes.push(note)?,
-        Line::End { skipped } => {
-            whole.push(last)?;
-            return Ok(ended(nodes, founder, whole, skipped));
-        }
-        _ => return Err(Refusal::NotAllowed),
-    }
-    Ok(Front::Entries {
-        nodes,
-        founder,
-        whole,
-        last,
     })
 }

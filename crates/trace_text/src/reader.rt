@@ -42,10 +42,10 @@ pub fn read_trace(alloc: Global, bytes: &[u8]) -> Result<Trace, TraceFault>
     let mut line: u32 = 1;
     let mut rest = bytes;
     while let Some((text, behind)) = split_once(b'\n', rest) {
-        front = match next_front(alloc, &mut buffer, front, text) {
-            Ok(next) => next,
+        match next_front(alloc, &mut buffer, &mut front, text) {
+            Ok(()) => {}
             Err(refusal) => return Err(fault_at(line, refusal)),
-        };
+        }
         line += 1;
         rest = behind;
     }
@@ -62,17 +62,17 @@ fn fault_at(line: u32, refusal: Refusal) -> TraceFault
     }
 }
 
-/// The front with this text as its next line.
+/// The front with this text as its next line. After an error it is of no more use.
 fn next_front(
     alloc: Global,
     buffer: &mut Vec<u8>,
-    front: Front,
+    front: &mut Front,
     text: &[u8],
-) -> Result<Front, Refusal>
-    ensures { Finds plain_front (IsNext (plain_front front) text.now) result }
+) -> Result<(), Refusal>
+    ensures { Finds (λ _. plain_front front.new) (IsNext (plain_front front.old) text.now) result }
 {
     let line = read_line(alloc, buffer, text)?;
-    front.with_line(alloc, line)
+    front.add(alloc, line)
 }
 
 fn read_line(alloc: Global, buffer: &mut Vec<u8>, text: &[u8]) -> Result<Line, Refusal>

@@ -16,7 +16,7 @@ use overlay_rules::{Entries, EntryRef, EventRef, Record};
 use ring_math::{Id, OutOfMemory};
 use std::alloc::Global;
 use text_writer::Text;
-use wire_codec::{encode, encode_command, encode_note};
+use wire_codec::{encode_command, encode_into, encode_note_into};
 use wire_msg::{Command, Envelope, Frame, Note};
 
 /// The text of a trace, with these nodes and this founder. The only error is that memory was refused.
@@ -82,13 +82,14 @@ fn put_end(text: &mut Text, skipped: u64) -> Result<(), OutOfMemory>
     text.put(b"\n")
 }
 
-/// The lines of all entries.
+/// The lines of all entries. The bytes of each message and note stand in one buffer, one after another.
 fn put_entries(alloc: Global, text: &mut Text, entries: &Entries) -> Result<(), OutOfMemory>
     ensures { OnOk result (WritesLines text.old text.new (flat_map entry_lines entries.now)) }
 {
+    let mut buffer = Vec::new(alloc);
     for place in 0..entries.len() {
         let entry = entries.at(place);
-        put_entry(alloc, text, &entry)?;
+        put_entry(alloc, text, &mut buffer, &entry)?;
         // Named, since the prover has to see what type a command is.
         if let EventRef::Command {
             command: _command,
@@ -99,12 +100,17 @@ fn put_entries(alloc: Global, text: &mut Text, entries: &Entries) -> Result<(), 
     Ok(())
 }
 
-fn put_entry(alloc: Global, text: &mut Text, entry: &EntryRef) -> Result<(), OutOfMemory>
+fn put_entry(
+    alloc: Global,
+    text: &mut Text,
+    buffer: &mut Vec<u8>,
+    entry: &EntryRef,
+) -> Result<(), OutOfMemory>
     ensures { OnOk result (WritesLines text.old text.new (entry_lines (entry_seen entry.now))) }
 {
     put_event(alloc, text, &entry.event)?;
-    put_messages(alloc, text, entry.messages)?;
-    put_notes(alloc, text, entry.notes)
+    put_messages(text, buffer, entry.messages)?;
+    put_notes(text, buffer, entry.notes)
 }
 
 fn put_event(alloc: Global, text: &mut Text, event: &EventRef) -> Result<(), OutOfMemory>
@@ -155,34 +161,38 @@ fn put_hex(text: &mut Text, word: &[u8], bytes: &[u8]) -> Result<(), OutOfMemory
     text.put(b"\n")
 }
 
-fn put_messages(alloc: Global, text: &mut Text, messages: &[Envelope]) -> Result<(), OutOfMemory>
+fn put_messages(
+    text: &mut Text,
+    buffer: &mut Vec<u8>,
+    messages: &[Envelope],
+) -> Result<(), OutOfMemory>
     ensures { OnOk result (WritesLines text.old text.new (map (λ e. lines.Sent (plain_envelope e)) messages.now)) }
 {
     for envelope in messages {
-        put_sent(alloc, text, envelope)?;
+        put_sent(text, buffer, envelope)?;
     }
     Ok(())
 }
 
-fn put_sent(alloc: Global, text: &mut Text, envelope: &Envelope) -> Result<(), OutOfMemory>
+fn put_sent(text: &mut Text, buffer: &mut Vec<u8>, envelope: &Envelope) -> Result<(), OutOfMemory>
     ensures { OnOk result (WritesLines text.old text.new (lines.Sent (plain_envelope envelope.now) ∷ [])) }
 {
-    let frame = encode(alloc, envelope)?;
-    put_hex(text, b"sent ", frame.as_slice())
+    encode_into(buffer, envelope)?;
+    put_hex(text, b"sent ", buffer)
 }
 
-fn put_notes(alloc: Global, text: &mut Text, notes: &[Note]) -> Result<(), OutOfMemory>
+fn put_notes(text: &mut Text, buffer: &mut Vec<u8>, notes: &[Note]) -> Result<(), OutOfMemory>
     ensures { OnOk result (WritesLines text.old text.new (map lines.Note notes.now)) }
 {
     for note in notes {
-        put_note(alloc, text, note)?;
+        put_note(text, buffer, note)?;
     }
     Ok(())
 }
 
-fn put_note(alloc: Global, text: &mut Text, note: &Note) -> Result<(), OutOfMemory>
+fn put_note(text: &mut Text, buffer: &mut Vec<u8>, note: &Note) -> Result<(), OutOfMemory>
     ensures { OnOk result (WritesLines text.old text.new (lines.Note note.now ∷ [])) }
 {
-    let bytes = encode_note(alloc, note)?;
-    put_hex(text, b"note ", bytes.as_slice())
+    encode_note_into(buffer, note)?;
+    put_hex(text, b"note ", buffer)
 }

@@ -28,7 +28,8 @@ pub(crate) fn woven_order(alloc: Global, cells: &[NodeCell]) -> Result<Vec<Act<'
     ensures lawful { OnOk result (All IsLawful cells.now) }
 {
     let mut acts = all_acts(alloc, cells)?;
-    acts.sort_unstable_by_key(|act| (act.stamp, act.node.0));
+    // The stable sort: it finds the histories, each of which is in order, and merges them.
+    acts.sort_by_key(|act| (act.stamp, act.node.0))?;
     Ok(acts)
 }
 

@@ -4,13 +4,13 @@ ghost use Rattle.std.specs.Prelude.{◌≡◌, ◌++◌, true, false, All, Conta
 ghost use Rattle.ring_math.specs.Names.{Id};
 ghost use Rattle.wire_msg.specs.Words.{plain_envelope};
 ghost use Rattle.node_cell.specs.Entries.{plain_history, plain_input_of};
-ghost use Rattle.weave.specs.ByStamp.{AreByStamp, envelopes_at};
+ghost use Rattle.weave.specs.ByStamp.{AreByStamp, envelopes_at, kept_in};
 ghost use Rattle.weave.specs.Cells.{histories};
 ghost use Rattle.weave.specs.Taken.{HasMissing, SentMissing, all_came, came_in, envelope_in};
 ghost use Rattle.weave.specs.Unread.{AllRead, IsSomeUnread};
 ghost use Rattle.weave.specs.Wanted.{HasSame};
 
-use crate::search::{by_stamp, place_of};
+use crate::search::{Sorted, by_stamp, place_of};
 use node_cell::{CellEntry, CellInput, NodeCell};
 use ring_math::OutOfMemory;
 use std::alloc::Global;
@@ -23,7 +23,7 @@ pub fn all_read(alloc: Global, cells: &[NodeCell]) -> Result<bool, OutOfMemory>
 {
     let taken = all_taken_sorted(alloc, cells)?;
     for cell in cells {
-        if !are_all_taken(alloc, cell.history(), &taken)? {
+        if !are_all_taken(cell.history(), &taken) {
             return Ok(false);
         }
     }
@@ -31,12 +31,12 @@ pub fn all_read(alloc: Global, cells: &[NodeCell]) -> Result<bool, OutOfMemory>
 }
 
 /// The messages that the histories took in, by stamp and then by sender.
-fn all_taken_sorted(alloc: Global, cells: &[NodeCell]) -> Result<Vec<&Envelope>, OutOfMemory>
-    ensures sorted { IfOk result (λ taken. AreByStamp (envelopes_at taken.items)) }
-    ensures same { IfOk result (λ taken. HasSame (all_came (histories cells.now)) (envelopes_at taken.items)) }
+fn all_taken_sorted(alloc: Global, cells: &[NodeCell]) -> Result<Sorted<'_>, OutOfMemory>
+    ensures sorted { IfOk result (λ taken. AreByStamp (kept_in taken)) }
+    ensures same { IfOk result (λ taken. HasSame (all_came (histories cells.now)) (kept_in taken)) }
 {
     let taken = all_taken(alloc, cells)?;
-    Ok(by_stamp(taken))
+    by_stamp(alloc, taken)
 }
 
 fn all_taken(alloc: Global, cells: &[NodeCell]) -> Result<Vec<&Envelope>, OutOfMemory>
@@ -71,32 +71,28 @@ fn envelope_in(input: &CellInput) -> Option<&Envelope>
 }
 
 /// Whether all that entries sent is among the messages taken.
-fn are_all_taken(
-    alloc: Global,
-    history: &[CellEntry],
-    taken: &[&Envelope],
-) -> Result<bool, OutOfMemory>
-    requires { AreByStamp (envelopes_at taken.now) }
-    ensures yes { IfOk result (λ all. all ≡ true → All (λ e. All (Contains (envelopes_at taken.now)) e.sent) (plain_history history.now)) }
-    ensures no { IfOk result (λ all. all ≡ false → SentMissing (envelopes_at taken.now) (plain_history history.now)) }
+fn are_all_taken(history: &[CellEntry], taken: &Sorted<'_>) -> bool
+    requires { AreByStamp (kept_in taken.now) }
+    ensures yes { result ≡ true → All (λ e. All (Contains (kept_in taken.now)) e.sent) (plain_history history.now) }
+    ensures no { result ≡ false → SentMissing (kept_in taken.now) (plain_history history.now) }
 {
     for entry in history {
-        if !are_taken(alloc, entry.sent.as_slice(), taken)? {
-            return Ok(false);
+        if !are_taken(entry.sent.as_slice(), taken) {
+            return false;
         }
     }
-    Ok(true)
+    true
 }
 
-fn are_taken(alloc: Global, sent: &[Envelope], taken: &[&Envelope]) -> Result<bool, OutOfMemory>
-    requires { AreByStamp (envelopes_at taken.now) }
-    ensures yes { IfOk result (λ all. all ≡ true → All (Contains (envelopes_at taken.now)) (map plain_envelope sent.now)) }
-    ensures no { IfOk result (λ all. all ≡ false → HasMissing (envelopes_at taken.now) (map plain_envelope sent.now)) }
+fn are_taken(sent: &[Envelope], taken: &Sorted<'_>) -> bool
+    requires { AreByStamp (kept_in taken.now) }
+    ensures yes { result ≡ true → All (Contains (kept_in taken.now)) (map plain_envelope sent.now) }
+    ensures no { result ≡ false → HasMissing (kept_in taken.now) (map plain_envelope sent.now) }
 {
     for envelope in sent {
-        if place_of(alloc, taken, envelope)?.is_none() {
-            return Ok(false);
+        if place_of(taken, envelope).is_none() {
+            return false;
         }
     }
-    Ok(true)
+    true
 }

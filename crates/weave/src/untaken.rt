@@ -2,14 +2,14 @@
 
 ghost use Rattle.std.specs.Prelude.{◌≡◌, IfOk, IfSome, IfNone, map, option_to_list};
 ghost use Rattle.wire_msg.specs.Words.{plain_envelope};
-ghost use Rattle.weave.specs.ByStamp.{AreByStamp, envelopes_at};
+ghost use Rattle.weave.specs.ByStamp.{AreByStamp, envelopes_at, kept_in};
 ghost use Rattle.weave.specs.Cells.{HaveOwnNodes, histories};
 ghost use Rattle.weave.specs.Placed.{acts_in, placed};
 ghost use Rattle.weave.specs.Unread.{AllRead, IsFirstUnread};
 ghost use Rattle.weave.specs.Wanted.{HasNoWanted, IsFirstWanted, IsFound, HasSame, taken_by, taken_in};
 
 use crate::acts::{Act, woven_order};
-use crate::search::{by_stamp, place_of};
+use crate::search::{Sorted, by_stamp, place_of};
 use crate::waiting::Unread;
 use node_cell::{CellInput, NodeCell};
 use ring_math::{Id, OutOfMemory};
@@ -37,12 +37,12 @@ fn taken_sorted<'a>(
     alloc: Global,
     acts: &[Act<'a>],
     receiver: Id,
-) -> Result<Vec<&'a Envelope>, OutOfMemory>
-    ensures sorted { IfOk result (λ taken. AreByStamp (envelopes_at taken.items)) }
-    ensures same { IfOk result (λ taken. HasSame (taken_by receiver (acts_in (map placed acts.now))) (envelopes_at taken.items)) }
+) -> Result<Sorted<'a>, OutOfMemory>
+    ensures sorted { IfOk result (λ taken. AreByStamp (kept_in taken)) }
+    ensures same { IfOk result (λ taken. HasSame (taken_by receiver (acts_in (map placed acts.now))) (kept_in taken)) }
 {
     let taken = taken_by(alloc, acts, receiver)?;
-    Ok(by_stamp(taken))
+    by_stamp(alloc, taken)
 }
 
 fn taken_by<'a>(
@@ -75,15 +75,15 @@ fn taken_in<'a>(act: &Act<'a>, receiver: Id) -> Option<&'a Envelope>
 fn first_untaken(
     alloc: Global,
     acts: &[Act<'_>],
-    taken: &[&Envelope],
+    taken: &Sorted<'_>,
     receiver: Id,
 ) -> Result<Option<Unread>, OutOfMemory>
-    requires { AreByStamp (envelopes_at taken.now) }
-    ensures { IfOk result (IsFound (envelopes_at taken.now) receiver (map placed acts.now)) }
+    requires { AreByStamp (kept_in taken.now) }
+    ensures { IfOk result (IsFound (kept_in taken.now) receiver (map placed acts.now)) }
 {
     for act in acts {
         let sent = act.entry.sent.as_slice();
-        if let Some(envelope) = first_sent(alloc, sent, taken, receiver)? {
+        if let Some(envelope) = first_sent(sent, taken, receiver) {
             return Ok(Some(Unread {
                 node: act.node,
                 place: act.place as u64,
@@ -94,20 +94,15 @@ fn first_untaken(
     Ok(None)
 }
 
-fn first_sent<'a>(
-    alloc: Global,
-    sent: &'a [Envelope],
-    taken: &[&Envelope],
-    receiver: Id,
-) -> Result<Option<&'a Envelope>, OutOfMemory>
-    requires { AreByStamp (envelopes_at taken.now) }
-    ensures some { IfOk result (λ found. IfSome found (λ v. IsFirstWanted (envelopes_at taken.now) receiver (map plain_envelope sent.now) (plain_envelope v.now))) }
-    ensures none { IfOk result (λ found. IfNone found (HasNoWanted (envelopes_at taken.now) receiver (map plain_envelope sent.now))) }
+fn first_sent<'a>(sent: &'a [Envelope], taken: &Sorted<'_>, receiver: Id) -> Option<&'a Envelope>
+    requires { AreByStamp (kept_in taken.now) }
+    ensures some { IfSome result (λ v. IsFirstWanted (kept_in taken.now) receiver (map plain_envelope sent.now) (plain_envelope v.now)) }
+    ensures none { IfNone result (HasNoWanted (kept_in taken.now) receiver (map plain_envelope sent.now)) }
 {
     for envelope in sent {
-        if envelope.receiver == receiver && place_of(alloc, taken, envelope)?.is_none() {
-            return Ok(Some(envelope));
+        if envelope.receiver == receiver && place_of(taken, envelope).is_none() {
+            return Some(envelope);
         }
     }
-    Ok(None)
+    None
 }

@@ -8,7 +8,7 @@ ghost use Rattle.weave_laws.specs.Cells.{Comes};
 ghost use Rattle.weave_laws.specs.AtNode.{IsPartOf};
 ghost use Rattle.weave_laws.specs.Woven.{IsEntryOf, IsEventOf, IsWoven};
 ghost use Rattle.node_cell.specs.Entries.{plain_entry};
-ghost use Rattle.weave.specs.ByStamp.{AreByStamp, envelopes_at};
+ghost use Rattle.weave.specs.ByStamp.{AreByStamp, kept_in};
 ghost use Rattle.weave.specs.Cells.{AreOneRing, HaveOwnNodes, histories, setting_of};
 ghost use Rattle.weave.specs.Placed.{acts_in, placed};
 ghost use Rattle.weave.specs.Stray.{IsDueTo};
@@ -16,7 +16,7 @@ ghost use Rattle.weave.specs.Stops.{IsStopAt, StopsAt};
 
 use crate::acts::{Act, sent_by, woven_order};
 use crate::fault::WeaveFault;
-use crate::search::place_of;
+use crate::search::{Sorted, place_of, sorted_of};
 use node_cell::{CellInput, NodeCell};
 use overlay_rules::{Entries, Entry, Event, Record};
 use ring_math::OutOfMemory;
@@ -34,7 +34,8 @@ pub fn weave(alloc: Global, cells: &[NodeCell]) -> Result<Record, WeaveFault>
     ensures due { IfErr result (IsDueTo (histories cells.now)) }
 {
     let acts = woven_order(alloc, cells)?;
-    let sent = sent_by(alloc, &acts)?;
+    let listed = sent_by(alloc, &acts)?;
+    let sent = sorted_of(alloc, listed)?;
     let entries = entries_of(alloc, &acts, &sent)?;
     Ok(Record {
         entries,
@@ -43,10 +44,10 @@ pub fn weave(alloc: Global, cells: &[NodeCell]) -> Result<Record, WeaveFault>
 }
 
 /// The entries of a record that these become, where all this was sent.
-fn entries_of(alloc: Global, acts: &[Act<'_>], sent: &[&Envelope]) -> Result<Entries, WeaveFault>
-    requires { AreByStamp (envelopes_at sent.now) }
-    ensures ok { IfOk result (λ entries. AllZip (IsEntryOf (envelopes_at sent.now)) (acts_in (map placed acts.now)) entries) }
-    ensures err { IfErr result (StopsAt (envelopes_at sent.now) (map placed acts.now)) }
+fn entries_of(alloc: Global, acts: &[Act<'_>], sent: &Sorted<'_>) -> Result<Entries, WeaveFault>
+    requires { AreByStamp (kept_in sent.now) }
+    ensures ok { IfOk result (λ entries. AllZip (IsEntryOf (kept_in sent.now)) (acts_in (map placed acts.now)) entries) }
+    ensures err { IfErr result (StopsAt (kept_in sent.now) (map placed acts.now)) }
 {
     let mut entries = Entries::new(alloc);
     for act in acts {
@@ -56,10 +57,10 @@ fn entries_of(alloc: Global, acts: &[Act<'_>], sent: &[&Envelope]) -> Result<Ent
 }
 
 /// The entry of a record that one of a history becomes. Its messages and notes share the bytes that the history has.
-fn entry_of(alloc: Global, act: &Act<'_>, sent: &[&Envelope]) -> Result<Entry, WeaveFault>
-    requires { AreByStamp (envelopes_at sent.now) }
-    ensures ok { IfOk result (λ entry. IsEntryOf (envelopes_at sent.now) (placed act.now).act entry) }
-    ensures err { IfErr result (IsStopAt (envelopes_at sent.now) (placed act.now)) }
+fn entry_of(alloc: Global, act: &Act<'_>, sent: &Sorted<'_>) -> Result<Entry, WeaveFault>
+    requires { AreByStamp (kept_in sent.now) }
+    ensures ok { IfOk result (λ entry. IsEntryOf (kept_in sent.now) (placed act.now).act entry) }
+    ensures err { IfErr result (IsStopAt (kept_in sent.now) (placed act.now)) }
 {
     let event = event_of(alloc, act, sent)?;
     let messages = shared_envelopes(alloc, act.entry.sent.as_slice())?;
@@ -71,10 +72,10 @@ fn entry_of(alloc: Global, act: &Act<'_>, sent: &[&Envelope]) -> Result<Entry, W
     })
 }
 
-fn event_of(alloc: Global, act: &Act<'_>, sent: &[&Envelope]) -> Result<Event, WeaveFault>
-    requires { AreByStamp (envelopes_at sent.now) }
-    ensures ok { IfOk result (IsEventOf (envelopes_at sent.now) act.now.node (plain_entry act.now.entry.now).input) }
-    ensures err { IfErr result (IsStopAt (envelopes_at sent.now) (placed act.now)) }
+fn event_of(alloc: Global, act: &Act<'_>, sent: &Sorted<'_>) -> Result<Event, WeaveFault>
+    requires { AreByStamp (kept_in sent.now) }
+    ensures ok { IfOk result (IsEventOf (kept_in sent.now) act.now.node (plain_entry act.now.entry.now).input) }
+    ensures err { IfErr result (IsStopAt (kept_in sent.now) (placed act.now)) }
 {
     match &act.entry.input {
         CellInput::Command { number, command } => Ok(Event::Command {
@@ -91,15 +92,15 @@ fn event_of(alloc: Global, act: &Act<'_>, sent: &[&Envelope]) -> Result<Event, W
 fn delivery_of(
     alloc: Global,
     act: &Act<'_>,
-    sent: &[&Envelope],
+    sent: &Sorted<'_>,
     envelope: &Envelope,
 ) -> Result<Event, WeaveFault>
-    requires sorted { AreByStamp (envelopes_at sent.now) }
+    requires sorted { AreByStamp (kept_in sent.now) }
     requires comes { (plain_entry act.now.entry.now).input ≡ Comes (plain_envelope envelope.now) }
-    ensures ok { IfOk result (IsEventOf (envelopes_at sent.now) act.now.node (Comes (plain_envelope envelope.now))) }
-    ensures err { IfErr result (IsStopAt (envelopes_at sent.now) (placed act.now)) }
+    ensures ok { IfOk result (IsEventOf (kept_in sent.now) act.now.node (Comes (plain_envelope envelope.now))) }
+    ensures err { IfErr result (IsStopAt (kept_in sent.now) (placed act.now)) }
 {
-    match place_of(alloc, sent, envelope)? {
+    match place_of(sent, envelope) {
         Some(place) => Ok(Event::Deliver {
             message: place as u64,
         }),

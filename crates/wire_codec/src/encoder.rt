@@ -30,14 +30,25 @@ fn put_header(out: &mut Vec<u8>, version: u8, number: u8, size: u32) -> Result<(
 pub fn encode(alloc: Global, envelope: &Envelope) -> Result<Frame, OutOfMemory>
     ensures { IfOk result (λ frame. Spells frame (plain_envelope envelope.now)) }
 {
-    // Kind and size are found together, before the allocation, so that one branch on the message does for both.
+    let mut out = Vec::new(alloc);
+    encode_into(&mut out, envelope)?;
+    Ok(Frame::from(out))
+}
+
+/// The one frame of the envelope, in the place of what the buffer had. A buffer that is used again is large enough at last, and
+/// then no memory is taken. After `OutOfMemory` nothing is known of what it has.
+pub fn encode_into(out: &mut Vec<u8>, envelope: &Envelope) -> Result<(), OutOfMemory>
+    ensures { OnOk result (Spells out.new.items (plain_envelope envelope.now)) }
+{
+    // Kind and size are found together, before room is made, so that one branch on the message does for both.
     let size = ADDRESSES + message_size(&envelope.message);
     let kind = Kind::of_message(&envelope.message);
     let version = kind.version().number();
     let number = kind.number();
-    let mut out = Vec::with_capacity(alloc, HEADER + size)?;
-    put_header(&mut out, version, number, size as u32)?;
-    put_addresses(&mut out, envelope.sender, envelope.receiver, envelope.stamp)?;
-    put_message(&mut out, &envelope.message)?;
-    Ok(Frame::from(out))
+    out.clear();
+    out.reserve(HEADER + size)?;
+    put_header(out, version, number, size as u32)?;
+    put_addresses(out, envelope.sender, envelope.receiver, envelope.stamp)?;
+    put_message(out, &envelope.message)?;
+    Ok(())
 }

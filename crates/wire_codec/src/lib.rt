@@ -22,10 +22,10 @@ mod walk;
 mod walk_note;
 
 pub use decoder::{decode, is_frame};
-pub use encoder::encode;
+pub use encoder::{encode, encode_into};
 pub use fault::FrameFault;
 pub use laws::{bytes_spell_one_envelope, no_spelling_begins_another, no_spelling_is_refused};
-pub use notes::{decode_command, decode_note, encode_command, encode_note};
+pub use notes::{decode_command, decode_note, encode_command, encode_note, encode_note_into};
 
 #[cfg(test)]
 mod tests;

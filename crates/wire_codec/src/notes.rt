@@ -1,6 +1,6 @@
 //! Commands and notes as bytes, and bytes as commands and notes: a tag and fields, in the forms of frames.
 
-ghost use Rattle.std.specs.Prelude.{◌≡◌, None, IfOk, MatchResult};
+ghost use Rattle.std.specs.Prelude.{◌≡◌, None, IfOk, MatchResult, OnOk};
 ghost use Rattle.wire_msg.specs.declared.command.Command.{Command as PlainCommand};
 ghost use Rattle.wire_msg.specs.declared.note.Note.{Note as PlainNote};
 ghost use Rattle.wire_codec.specs.declared.fault.FrameFault.TheVariants as fault;
@@ -29,8 +29,17 @@ pub fn encode_note(alloc: Global, note: &Note) -> Result<Frame, OutOfMemory>
     ensures { IfOk result (λ bytes. SpellsNote bytes note.now) }
 {
     let mut out = Vec::new(alloc);
-    put_note(&mut out, note)?;
+    encode_note_into(&mut out, note)?;
     Ok(Frame::from(out))
+}
+
+/// The one spelling of the note, in the place of what the buffer had. After `OutOfMemory` nothing is known of what it has.
+pub fn encode_note_into(out: &mut Vec<u8>, note: &Note) -> Result<(), OutOfMemory>
+    ensures { OnOk result (SpellsNote out.new.items note.now) }
+{
+    out.clear();
+    put_note(out, note)?;
+    Ok(())
 }
 
 /// The command that bytes spell. They are checked whole before memory is taken.

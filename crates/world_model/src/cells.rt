@@ -24,12 +24,18 @@ use std::alloc::Global;
 use std::collections::BTreeMap;
 use std::marker::Model;
 
+/// How many of its first bits an identifier is guessed by.
+const GUESS_BITS: u32 = 10;
+
 /// Nodes with different identifiers, in the order of their setting.
 #[derive(Drop)]
 pub struct Cells {
     nodes: Vec<Node>,
     /// The place of each identifier.
     places: BTreeMap<u128, usize>,
+    /// For each value of the first bits the place of a node whose identifier begins with it, if there is one. It is the right
+    /// one mostly, and it is looked at before it is taken, so that few identifiers are sought in the map.
+    guesses: Vec<usize>,
 }
 
 impl Model for Cells {
@@ -53,7 +59,12 @@ impl Cells {
     {
         let nodes = nodes_of(alloc, ids, founder)?;
         let places = places_of(alloc, ids)?;
-        Ok(Cells { nodes, places })
+        let guesses = guesses_of(alloc, ids)?;
+        Ok(Cells {
+            nodes,
+            places,
+            guesses,
+        })
     }
 
     /// Where the node of an identifier stands.
@@ -62,7 +73,10 @@ impl Cells {
         ensures within { result < length (ids_of self.now) }
         ensures id { slice_index (ids_of self.now) result ≡ id }
     {
-        *self.places.get(&id.0).unwrap()
+        match self.guessed(id) {
+            Some(place) => place,
+            None => *self.places.get(&id.0).unwrap(),
+        }
     }
 
     /// Where the node of an identifier stands, None exactly where there is none.
@@ -70,7 +84,19 @@ impl Cells {
         ensures some { IfSome result (λ place. (place < length (ids_of self.now)) × (slice_index (ids_of self.now) place ≡ id)) }
         ensures none { IfNone result (¬ Contains (ids_of self.now) id) }
     {
-        self.places.get(&id.0).copied()
+        match self.guessed(id) {
+            Some(place) => Some(place),
+            None => self.places.get(&id.0).copied(),
+        }
+    }
+
+    /// Where the node of an identifier stands, if that was guessed.
+    fn guessed(&self, id: Id) -> Option<usize>
+        ensures { IfSome result (λ place. (place < length (ids_of self.now)) × (slice_index (ids_of self.now) place ≡ id)) }
+    {
+        let place = *self.guesses.get(guess_of(id))?;
+        let node = self.nodes.get(place)?;
+        if node.id() == id { Some(place) } else { None }
     }
 
     /// How many nodes are ready.
@@ -194,6 +220,22 @@ fn places_of(alloc: Global, ids: &[Id]) -> Result<BTreeMap<u128, usize>, OutOfMe
         places.insert(id.0, place)?;
     }
     Ok(places)
+}
+
+/// Which guess an identifier goes by.
+fn guess_of(id: Id) -> usize {
+    (id.0 >> (u128::BITS - GUESS_BITS)) as usize
+}
+
+/// The guesses for these identifiers: of those that begin alike the last is guessed.
+fn guesses_of(alloc: Global, ids: &[Id]) -> Result<Vec<usize>, OutOfMemory> {
+    let mut guesses = vec![in alloc; 0; 1 << GUESS_BITS]?;
+    for (place, id) in ids.iter().enumerate() {
+        if let Some(guess) = guesses.get_mut(guess_of(*id)) {
+            *guess = place;
+        }
+    }
+    Ok(guesses)
 }
 
 fn prepare_at(

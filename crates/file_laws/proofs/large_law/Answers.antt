@@ -1,4 +1,3 @@
-use Rattle.std.proofs.Common.{subst}
 use Rattle.file_laws.proofs.Kept.{file_comes_back}
 use Rattle.file_laws.proofs.large_law.Goals as goal
 

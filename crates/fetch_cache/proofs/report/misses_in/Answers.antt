@@ -1,4 +1,4 @@
-use Rattle.std.proofs.Common.{◌≡◌, ◌+◌, Bool, cond, count_by, false, is_some, take, sym, ap, ◌∙◌, arith}
+use Rattle.std.proofs.Common.{◌≡◌, ◌+◌, count_by, false, is_some, take, sym, ap, ◌∙◌, arith}
 use Rattle.overlay_rules.specs.declared.entry.EventRef.{EventRef}
 use Rattle.overlay_rules.specs.Seen.{entry_seen, event_seen}
 use Rattle.fetch_cache.specs.Text.{is_miss}

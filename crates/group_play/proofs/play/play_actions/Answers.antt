@@ -7,7 +7,7 @@ use Rattle.group_play.proofs.play.play_actions.Goals as goal
 pub loop-action-init : goal.loop-action-init
 loop-action-init c = record {
   plays = c.new-play.ensures.plays c.args.world.now;
-  played = played_at_start c.args.world.now c.args.actions.now c.new-play.result.entries c.requires c.new-play.ensures.entries;
+  played = played_at_start c.args.world.now c.args.actions.now c.new-play.result.writer.entries c.requires c.new-play.ensures.entries;
 }
 
 pub loop-action-preserved : goal.loop-action-preserved
@@ -21,7 +21,7 @@ loop-action-preserved c =
       played =
           subst (IsPlayedTo c.args.world.now c.args.actions.now (drop (c.loop-action.action-index + 1) c.args.actions.now))
           (sym c.in_ok-act.ensures.entries)
-          (played_next c.args.world.now c.args.actions.now (drop (c.loop-action.action-index + 1) c.args.actions.now) a c.loop-action.play.entries
-          (subst (λ (rest : List GroupAction). IsPlayedTo c.args.world.now c.args.actions.now rest c.loop-action.play.entries) left
+          (played_next c.args.world.now c.args.actions.now (drop (c.loop-action.action-index + 1) c.args.actions.now) a c.loop-action.play.writer.entries
+          (subst (λ (rest : List GroupAction). IsPlayedTo c.args.world.now c.args.actions.now rest c.loop-action.play.writer.entries) left
           c.loop-action.invariant.played));
     }

@@ -7,5 +7,5 @@ use Rattle.group_play.proofs.play.play_actions.Given as goal
 abbrev pub invariant-loop-action : goal.invariant-loop-action
 invariant-loop-action l = record {
   plays : IsPlay l.world l.play;
-  played : IsPlayedTo l.world l.actions (drop l.action-index l.actions) l.play.entries;
+  played : IsPlayedTo l.world l.actions (drop l.action-index l.actions) l.play.writer.entries;
 }

@@ -10,12 +10,13 @@ pub loop-child-preserved : goal.loop-child-preserved
 loop-child-preserved c =
     let sent = rw c.in_ok-copy.ensures at c.in_ok-send.ensures.messages in
     record {
+      entries = c.send.ensures.entries ∙ c.loop-child.invariant.entries;
       messages =
           sent
           ∙ ap (λ (ms : List GroupSent).
           ms ++ sent_from c.args.at.now.node c.args.at.now.group.now (to c.child-item.result (message.Cast c.args.number c.args.bytes.now)) ∷ [])
           c.loop-child.invariant.messages
-          ∙ cast_next c.args.at.now.node c.args.at.now.group.now (message.Cast c.args.number c.args.bytes.now) c.args.said.now.messages c.args.children.now
+          ∙ cast_next c.args.at.now.node c.args.at.now.group.now (message.Cast c.args.number c.args.bytes.now) c.args.writer.now.messages c.args.children.now
           c.loop-child.child-index c.child-item.result c.loop-child-test.true c.child-item.is;
       notes = c.send.ensures.notes ∙ c.loop-child.invariant.notes;
     }

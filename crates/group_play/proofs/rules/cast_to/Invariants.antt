@@ -7,7 +7,8 @@ use Rattle.group_play.proofs.rules.cast_to.Given as goal
 -- it was sent to the children so far
 abbrev pub invariant-loop-child : goal.invariant-loop-child
 invariant-loop-child l = record {
-  messages : l.said.messages ≡
-      l.initial.said.messages ++ map (sent_from l.at.node l.at.group.now) (to_each (take l.child-index l.children) (message.Cast l.number l.bytes));
-  notes : l.said.notes ≡ l.initial.said.notes;
+  entries : l.writer.entries ≡ l.initial.writer.entries;
+  messages : l.writer.messages ≡
+      l.initial.writer.messages ++ map (sent_from l.at.node l.at.group.now) (to_each (take l.child-index l.children) (message.Cast l.number l.bytes));
+  notes : l.writer.notes ≡ l.initial.writer.notes;
 }

@@ -1,4 +1,4 @@
-use Rattle.std.proofs.Common.{◌≡◌, ◌∙◌, Some, cond, nat_cmp, ap}
+use Rattle.std.proofs.Common.{◌∙◌, Some, cond, nat_cmp, ap}
 use Rattle.std.specs.BTreeMap.{get}
 use Rattle.std.specs.Cmp.{unsigned_tied}
 use Rattle.group_report.proofs.Answering.{known_more, new_more}

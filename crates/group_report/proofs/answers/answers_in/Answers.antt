@@ -1,12 +1,9 @@
-use Rattle.std.proofs.Common.{◌∙◌, List, ap, sym, take}
-use Rattle.scribe_core.specs.declared.note.GroupNote.{GroupNote}
-use Rattle.group_report.specs.Answers.{answer_to, notes_in, or_later}
-use Rattle.group_report.proofs.Answering.{answers_more}
+use Rattle.std.proofs.Common.{◌∙◌, None, ap, sym}
+use Rattle.group_report.specs.Answers.{answer_by, answer_in, or_later}
+use Rattle.group_report.proofs.Answering.{answer_to-more}
 use Rattle.group_report.proofs.answers.answers_in.Goals as goal
 
-pub loop-entry-preserved : goal.loop-entry-preserved
-loop-entry-preserved c = λ n.
-    c.in_ok-add_answers.ensures n ∙ ap (λ o. or_later o (answer_to n c.as_slice.result.now)) (c.loop-entry.invariant n)
-    ∙ ap (λ (notes : List GroupNote). or_later (answer_to n (notes_in (take c.loop-entry.entry-index c.args.entries.now))) (answer_to n notes))
-    c.as_slice.ensures
-    ∙ sym (answers_more n c.args.entries.now c.loop-entry.entry-index c.entry-item.result c.loop-entry-test.true c.entry-item.is)
+pub loop-note-preserved : goal.loop-note-preserved
+loop-note-preserved c = λ n.
+    c.in_ok-add_answer.ensures n ∙ ap (λ o. or_later o (answer_by n (answer_in c.note-item.result) None)) (c.loop-note.invariant n)
+    ∙ sym (answer_to-more n c.args.notes.now c.loop-note.note-index c.note-item.result c.loop-note-test.true c.note-item.is)

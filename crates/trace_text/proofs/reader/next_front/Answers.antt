@@ -5,4 +5,5 @@ use Rattle.trace_text.proofs.reader.next_front.Goals as goal
 
 pub returns : goal.returns
 returns c =
-    next_found (plain_front c.args.front) c.args.text.now (plain_line c.in_ok-line.line) c.with_line.result c.in_ok-line.ensures c.with_line.ensures
+    next_found (λ _. plain_front c.add.new.self) (plain_front c.args.front.now) c.args.text.now (plain_line c.in_ok-line.line) c.add.result
+    c.in_ok-line.ensures c.add.ensures

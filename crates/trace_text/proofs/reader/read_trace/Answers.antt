@@ -12,7 +12,7 @@ returns-in-Err-clause-refused c = λ fits.
 pub loop-text-preserved : goal.loop-text-preserved
 loop-text-preserved c =
     let f = plain_front c.loop-text.front in
-    let g = plain_front c.in-Ok.next in
+    let g = plain_front c.next_front.new.front in
     let text = c.in-Some.text.now in
     let behind = c.in-Some.behind.now in
     let size = ap length c.in-Some.ensures.0 ∙ length-append text (10 ∷ behind) in

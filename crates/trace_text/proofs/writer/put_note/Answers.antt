@@ -6,6 +6,6 @@ use Rattle.trace_text.proofs.writer.put_note.Goals as goal
 
 pub returns : goal.returns
 returns c =
-    let spells = c.in_ok-bytes.ensures in
+    let spells = c.in_ok-encode_note_into.ensures in
     on_ok c.put_hex.result c.put_hex.ensures (λ written. line_written (lines.Note c.args.note.now) _ written
-    (ap (λ (bytes : List ℕ). codes "note " ++ encode_lower bytes ++ codes "\n") (c.as_slice.ensures ∙ spells.bytes_are)) spells.fits)
+    (ap (λ (bytes : List ℕ). codes "note " ++ encode_lower bytes ++ codes "\n") (c.deref.ensures.value ∙ spells.bytes_are)) spells.fits)

@@ -7,6 +7,6 @@ use Rattle.trace_text.proofs.writer.put_sent.Goals as goal
 
 pub returns : goal.returns
 returns c =
-    let spells = c.in_ok-frame.ensures in
+    let spells = c.in_ok-encode_into.ensures in
     on_ok c.put_hex.result c.put_hex.ensures (λ written. line_written (lines.Sent (plain_envelope c.args.envelope.now)) _ written
-    (ap (λ (bytes : List ℕ). codes "sent " ++ encode_lower bytes ++ codes "\n") (c.as_slice.ensures ∙ spells.bytes_are)) spells.fits)
+    (ap (λ (bytes : List ℕ). codes "sent " ++ encode_lower bytes ++ codes "\n") (c.deref.ensures.value ∙ spells.bytes_are)) spells.fits)

@@ -4,7 +4,7 @@ use Rattle.std.proofs.lemmas.List.Elements.{All-push}
 use Rattle.wire_msg.specs.declared.message.Envelope.{Envelope as CodeEnvelope}
 use Rattle.wire_msg.specs.Words.{Envelope, plain_envelope}
 use Rattle.weave.specs.declared.acts.Act.{Act as CodeAct}
-use Rattle.weave.specs.ByStamp.{envelopes_at}
+use Rattle.weave.specs.ByStamp.{kept_in}
 use Rattle.weave.specs.Placed.{Placed, placed}
 use Rattle.weave.specs.Wanted.{HasNoWanted, IsFirstWanted}
 use Rattle.weave.proofs.Stopping.{placed_more, split_at}
@@ -12,17 +12,17 @@ use Rattle.weave.proofs.untaken.first_untaken.Goals as goal
 
 pub returns : goal.returns
 returns c =
-    subst (λ (xs : List CodeAct). All (λ (p : Placed). HasNoWanted (envelopes_at c.args.taken.now) c.args.receiver p.act.entry.sent) (map placed xs))
+    subst (λ (xs : List CodeAct). All (λ (p : Placed). HasNoWanted (kept_in c.args.taken.now) c.args.receiver p.act.entry.sent) (map placed xs))
     (take_all c.loop-act.act-index c.args.acts.now c.loop-act-test.false) c.loop-act.invariant
 
 pub loop-act-preserved : goal.loop-act-preserved
 loop-act-preserved c =
-    let taken : List Envelope = envelopes_at c.args.taken.now in
+    let taken : List Envelope = kept_in c.args.taken.now in
     let one : CodeAct = c.act-item.result in
     let so_far : List Placed = map placed (take c.loop-act.act-index c.args.acts.now) in
     let none : HasNoWanted taken c.args.receiver (map plain_envelope c.as_slice-sent.result.now) =
     subst (λ (found : Option (Bor CodeEnvelope)). IfNone found (HasNoWanted taken c.args.receiver (map plain_envelope c.as_slice-sent.result.now)))
-    c.in_default.is c.in_ok-envelope.ensures.none in
+    c.in_default.is c.first_sent.ensures.none in
     subst (All (λ (p : Placed). HasNoWanted taken c.args.receiver p.act.entry.sent))
     (sym (placed_more c.args.acts.now c.loop-act.act-index one c.loop-act-test.true c.act-item.is))
     (All-push (λ (p : Placed). HasNoWanted taken c.args.receiver p.act.entry.sent) so_far (placed one) c.loop-act.invariant
@@ -30,12 +30,12 @@ loop-act-preserved c =
 
 pub returns-in-Some : goal.returns-in-Some
 returns-in-Some c =
-    let taken : List Envelope = envelopes_at c.args.taken.now in
+    let taken : List Envelope = kept_in c.args.taken.now in
     let x = c.args.receiver in
     let sent : List Envelope = map plain_envelope c.as_slice-sent.result.now in
     let first : IsFirstWanted taken x sent (plain_envelope c.in-Some.envelope.now) =
     subst (λ (found : Option (Bor CodeEnvelope)). IfSome found (λ v. IsFirstWanted taken x sent (plain_envelope v.now)))
-    c.in-Some.is c.in_ok-envelope.ensures.some in
+    c.in-Some.is c.first_sent.ensures.some in
     record {
       before = map placed (take c.loop-act.act-index c.args.acts.now);
       stop = placed c.act-item.result;

@@ -1,5 +1,5 @@
 use Rattle.std.proofs.Common.{All, map, take}
-use Rattle.weave.specs.ByStamp.{envelopes_at}
+use Rattle.weave.specs.ByStamp.{kept_in}
 use Rattle.weave.specs.Placed.{Placed, placed}
 use Rattle.weave.specs.Wanted.{HasNoWanted}
 use Rattle.weave.proofs.untaken.first_untaken.Given as goal
@@ -7,4 +7,4 @@ use Rattle.weave.proofs.untaken.first_untaken.Given as goal
 -- the entries so far sent nothing that is sought
 abbrev pub invariant-loop-act : goal.invariant-loop-act
 invariant-loop-act l =
-    All (λ (p : Placed). HasNoWanted (envelopes_at l.taken) l.receiver p.act.entry.sent) (map placed (take l.act-index l.acts))
+    All (λ (p : Placed). HasNoWanted (kept_in l.taken) l.receiver p.act.entry.sent) (map placed (take l.act-index l.acts))

@@ -1,9 +1,9 @@
-use Rattle.std.proofs.Common.{IfSome, IfNone, Option, List, sym, subst, ap, map}
+use Rattle.std.proofs.Common.{IfSome, IfNone, Option, List, subst, map}
 use Rattle.std.proofs.lemmas.Result.{IfOk-weaker}
-use Rattle.wire_msg.specs.Words.{Envelope, plain_envelope}
+use Rattle.wire_msg.specs.Words.{plain_envelope}
 use Rattle.weave.specs.declared.acts.Act.{Act as CodeAct}
 use Rattle.weave.specs.declared.waiting.Unread.{Unread}
-use Rattle.weave.specs.ByStamp.{envelopes_at}
+use Rattle.weave.specs.ByStamp.{kept_in}
 use Rattle.weave.specs.Cells.{histories}
 use Rattle.weave.specs.Placed.{acts_in, placed}
 use Rattle.weave.specs.Unread.{AllRead, IsFirstUnread}
@@ -13,18 +13,17 @@ use Rattle.weave.proofs.untaken.unread.Goals as goal
 
 -- what is found among the entries, through the slices that the code passes
 abbrev Sought : goal.After-drop-acts-2 → Option Unread → Type 0
-Sought c found = IsFound (envelopes_at c.deref-3.result.now) c.args.receiver (map placed c.deref-2.result.now) found
+Sought c found = IsFound (kept_in c.in_ok-taken.taken) c.args.receiver (map placed c.deref-2.result.now) found
 
 listed : (c : goal.After-drop-acts-2) → (found : Option Unread) → Sought c found →
-    IsFound (envelopes_at c.deref-3.result.now) c.args.receiver (map placed c.in_ok-acts.acts.items) found
+    IsFound (kept_in c.in_ok-taken.taken) c.args.receiver (map placed c.in_ok-acts.acts.items) found
 listed c found h =
-    subst (λ (xs : List CodeAct). IsFound (envelopes_at c.deref-3.result.now) c.args.receiver (map placed xs) found) c.deref-2.ensures.value h
+    subst (λ (xs : List CodeAct). IsFound (kept_in c.in_ok-taken.taken) c.args.receiver (map placed xs) found) c.deref-2.ensures.value h
 
-same : (c : goal.After-drop-acts-2) → HasSame (taken_by c.args.receiver (acts_in (map placed c.in_ok-acts.acts.items))) (envelopes_at c.deref-3.result.now)
+same : (c : goal.After-drop-acts-2) → HasSame (taken_by c.args.receiver (acts_in (map placed c.in_ok-acts.acts.items))) (kept_in c.in_ok-taken.taken)
 same c =
-    subst (λ (xs : List CodeAct). HasSame (taken_by c.args.receiver (acts_in (map placed xs))) (envelopes_at c.deref-3.result.now)) c.deref.ensures.value
-    (subst (λ (vs : List Envelope). HasSame (taken_by c.args.receiver (acts_in (map placed c.deref.result.now))) vs)
-    (ap envelopes_at (sym c.deref-3.ensures.value)) c.in_ok-taken.ensures.same)
+    subst (λ (xs : List CodeAct). HasSame (taken_by c.args.receiver (acts_in (map placed xs))) (kept_in c.in_ok-taken.taken)) c.deref.ensures.value
+    c.in_ok-taken.ensures.same
 
 pub returns-clause-some : goal.returns-clause-some
 returns-clause-some c =
@@ -32,7 +31,7 @@ returns-clause-some c =
     let x = c.args.receiver in
     IfOk-weaker c.first_untaken.result (Sought c) (λ (found : Option Unread). IfSome found (λ u. IsFirstUnread hs x u.node u.place (plain_envelope u.envelope)))
     (λ (found : Option Unread) (h : Sought c found).
-    first_if_some hs (map placed c.in_ok-acts.acts.items) c.in_ok-acts.ensures.order c.in_ok-acts.ensures.entries (envelopes_at c.deref-3.result.now) x
+    first_if_some hs (map placed c.in_ok-acts.acts.items) c.in_ok-acts.ensures.order c.in_ok-acts.ensures.entries (kept_in c.in_ok-taken.taken) x
     (same c) found (listed c found h))
     c.first_untaken.ensures
 
@@ -42,6 +41,6 @@ returns-clause-none c =
     let x = c.args.receiver in
     IfOk-weaker c.first_untaken.result (Sought c) (λ (found : Option Unread). IfNone found (AllRead hs x))
     (λ (found : Option Unread) (h : Sought c found).
-    read_if_none hs (map placed c.in_ok-acts.acts.items) c.in_ok-acts.ensures.order c.in_ok-acts.ensures.entries (envelopes_at c.deref-3.result.now) x
+    read_if_none hs (map placed c.in_ok-acts.acts.items) c.in_ok-acts.ensures.order c.in_ok-acts.ensures.entries (kept_in c.in_ok-taken.taken) x
     (same c) found (listed c found h))
     c.first_untaken.ensures

@@ -1,4 +1,4 @@
-use Rattle.std.proofs.Common.{◌≡◌, false, true, List, sym, subst, ap, ◌∙◌}
+use Rattle.std.proofs.Common.{◌≡◌, List, sym, subst, ap, ◌∙◌}
 use Rattle.scenario_reader.specs.declared.action.Action.{Action}
 use Rattle.play_engine.specs.Advance.{IsNext, moved_to, next_turn}
 use Rattle.play_engine.specs.Coming.{CanCome}

@@ -1,4 +1,4 @@
-use Rattle.std.proofs.Common.{rules, ◌≡◌, List, sym, ap, ◌∙◌}
+use Rattle.std.proofs.Common.{rules, List, sym, ap, ◌∙◌}
 use Rattle.std.proofs.lemmas.List.{places, with_items_is}
 use Rattle.overlay_rules.specs.Record.{sent_in, visit}
 use Rattle.world_model.specs.Recorded.{Recorded}

@@ -1,22 +1,35 @@
-use Rattle.std.proofs.Common.{◌≡◌, ◌<◌, ◌≤◌, ◌+◌, ◌++◌, ◌∙◌, ℕ, Option, List, Bool, true, false, length, ap, subst, get_or}
+use Rattle.std.proofs.Common.{◌≡◌, ◌<◌, ◌≤◌, ◌+◌, ◌++◌, ◌∷◌, [], ◌∙◌, ℕ, Option, List, Bool, true, false, arith, length, length-append, ap, subst, get_or}
+use Rattle.std.proofs.Common.{replicate}
+use Rattle.std.proofs.lemmas.List.{length-map}
+use Rattle.ring_math.specs.Keys.{id_of}
+use Rattle.ring_math.specs.Names.{Id}
+use Rattle.scribe_core.specs.declared.message.GroupSent.{GroupSent}
+use Rattle.scribe_core.specs.Record.{sent_in}
+use Rattle.scribe_core.proofs.Holding.{sent_in-push}
 use Rattle.world_model.specs.Index.{IsBelow, marked}
-use Rattle.group_play.specs.Messages.{delivered_by, listed}
-use Rattle.group_play.proofs.Listing.{messages_more}
+use Rattle.group_play.specs.Messages.{delivered_by}
+use Rattle.group_play.proofs.Listing.{grown, marked-length, messages_more}
 use Rattle.group_play.proofs.messages.Messages.add.Goals as goal
 
 pub returns : goal.returns
-returns c = λ es e h d n k keys.
+returns c = λ es e h d n key_is.
     let old : List Bool = c.args.self.now.delivered.items in
     let marks : c.mark.new.marks.items ≡ marked (delivered_by e.event) old = c.mark.ensures ∙ ap (λ (o : Option ℕ). marked o old) d in
+    let long : length c.mark.new.marks.items ≡ length (sent_in es) =
+    ap (λ (ms : List Bool). length ms) marks ∙ marked-length (delivered_by e.event) old ∙ h.marks.count in
+    let listed : length c.args.self.now.keys.items ≡ length (sent_in es) =
+    ap (λ (ks : List Id). length ks) h.keys ∙ length-map (sent_in es) (λ (s : GroupSent). id_of s.group) in
+    let count : c.args.count ≡ length (sent_in es) + length e.messages =
+    n ∙ ap (λ (ss : List GroupSent). length ss) (sent_in-push es e) ∙ length-append (sent_in es) e.messages in
     let seen = c.deref.ensures.value in
-    messages_more c.args.self.now (record { listed = c.list.new.messages; delivered = c.add_marks.new.marks; oldest = c.first_unmarked-self.result }) es e
-    c.args.key h keys
+    messages_more c.args.self.now (record { keys = c.resize-2.new.self; delivered = c.resize.new.self; oldest = c.first_unmarked-self.result }) es e
+    c.args.key h key_is
     (subst (λ (o : Option ℕ). IsBelow (length old) o) d (subst (λ m. IsBelow m c.args.delivered) c.args.self.now.delivered.ok.0 c.requires))
-    (c.in_ok-list.ensures ∙ ap (λ (m : ℕ). c.args.self.now.listed.items ++ listed m c.args.key c.args.count) n
-    ∙ ap (λ (m : ℕ). c.args.self.now.listed.items ++ listed (length es) c.args.key m) k)
-    (c.in_ok-add_marks.ensures.count ∙ ap (λ (ms : List Bool). length ms + c.args.count) marks
-    ∙ ap (λ (m : ℕ). length (marked (delivered_by e.event) old) + m) k)
-    (λ m. c.in_ok-add_marks.ensures.marks m ∙ ap (λ (ms : List Bool). get_or ms m false) marks)
+    (grown c.args.self.now.keys.items c.resize-2.new.self.items _ c.args.count (length e.messages) c.args.key c.in_ok-resize-2.ensures.items
+    c.args.self.now.keys.ok.0 (let a = listed in let b = count in omega arith))
+    (grown c.mark.new.marks.items c.resize.new.self.items _ c.args.count (length e.messages) false c.in_ok-resize.ensures.items
+    c.mark.new.marks.ok.0 (let a = long in let b = count in omega arith)
+    ∙ ap (λ (ms : List Bool). ms ++ replicate (length e.messages) false) marks)
     (subst (λ (ms : List Bool). c.first_unmarked-self.result ≤ length ms) seen c.first_unmarked-self.ensures.within)
     (subst (λ (ms : List Bool). (m : ℕ) → c.args.self.now.oldest ≤ m → m < c.first_unmarked-self.result → get_or ms m false ≡ true) seen
     c.first_unmarked-self.ensures.before)

@@ -1,4 +1,4 @@
-use Rattle.std.proofs.Common.{◌≡◌, Some, ap, slice_get, subst, sym}
+use Rattle.std.proofs.Common.{◌≡◌, ◌∙◌, Some, ap, slice_get, subst, sym}
 use Rattle.scribe_core.specs.declared.entry.GroupEvent.{GroupEvent}
 use Rattle.scribe_core.specs.declared.entry.GroupEvent.TheVariants as event
 use Rattle.scribe_core.specs.Laws.{groups_in}
@@ -7,39 +7,61 @@ use Rattle.scribe_core.specs.Record.{Visit, sent_in, visit_of}
 use Rattle.scribe_core.proofs.Receivers.{receiver_is_node}
 use Rattle.world_model.specs.Recorded.{setting_of, world_of}
 use Rattle.group_play.specs.declared.seats.Seats.{Seats}
+use Rattle.group_play.specs.Keys.{AreKeys}
 use Rattle.group_play.specs.Seats.{AreSeats, StepsTo}
-use Rattle.group_play.proofs.Happening.{still_plays}
+use Rattle.group_play.proofs.Happening.{is_happened, said_now, still_plays}
 use Rattle.group_play.proofs.Listing.{have_key, key_is, sent_is}
 use Rattle.group_play.proofs.play.Play.deliver.Goals as goal
-use Rattle.group_play.proofs.play.Play.deliver.Goals.{After-sent_at-sent}
 
--- the message that is found is the one that is delivered
-found : (c : After-sent_at-sent) → slice_get (sent_in c.args.self.now.entries) c.args.message ≡ Some c.sent_at-sent.result.now
-found c = sent_is c.args.self.now.entries c.args.self.now.messages c.args.message c.index-listed.result.now c.sent_at-sent.result.now
-    c.requires.plays.messages c.requires.sent c.index-listed.ensures c.sent_at-sent.ensures
+pub message-requires-clause-key : goal.message-requires-clause-key
+message-requires-clause-key c =
+    let is = sent_is c.args.self.now.writer.entries c.sent.result.now c.args.self.now.writer.messages c.args.message c.index-sent-message.result
+    c.in_ok-sent.sent c.sent.ensures c.requires.plays.nothing_sent c.requires.sent c.index-sent-message.is c.in_ok-sent.ensures in
+    c.index-key.ensures
+    ∙ key_is c.args.self.now.writer.entries c.args.self.now.messages c.args.message c.in_ok-sent.sent c.index-key.result.now c.requires.plays.messages is
 
 pub message-requires-clause-member : goal.message-requires-clause-member
 message-requires-clause-member c =
-    receiver_is_node (setting_of c.args.world.now) c.args.world.now.entries c.args.self.now.entries c.requires.legal c.requires.plays.legal c.args.message
-    c.sent_at-sent.result.now (found (goal.at.message-requires-clause-member c).After-sent_at-sent)
+    let is = sent_is c.args.self.now.writer.entries c.sent.result.now c.args.self.now.writer.messages c.args.message c.index-sent-message.result
+    c.in_ok-sent.sent c.sent.ensures c.requires.plays.nothing_sent c.requires.sent c.index-sent-message.is c.in_ok-sent.ensures in
+    receiver_is_node (setting_of c.args.world.now) c.args.world.now.entries c.args.self.now.writer.entries c.requires.legal c.requires.plays.legal
+    c.args.message c.in_ok-sent.sent is
 
-pub add-requires-clause-keys : goal.add-requires-clause-keys
-add-requires-clause-keys c =
-    have_key c.sent_at-sent.result.now.receiver c.sent_at-sent.result.now.group c.index-listed.result.now.key _ c.in_ok-said.said.messages
-    (key_is c.args.self.now.entries c.args.self.now.messages c.args.message c.index-listed.result.now c.sent_at-sent.result.now
-    c.requires.plays.messages c.requires.sent c.index-listed.ensures c.sent_at-sent.ensures)
-    (c.in_ok-said.ensures.steps (groups_in (world_of c.args.world.now) c.args.self.now.entries).parts c.requires.plays.parts).messages
+pub close-requires-clause-keys : goal.close-requires-clause-keys
+close-requires-clause-keys c =
+    let is = sent_is c.args.self.now.writer.entries c.sent.result.now c.args.self.now.writer.messages c.args.message c.index-sent-message.result
+    c.in_ok-sent.sent c.sent.ensures c.requires.plays.nothing_sent c.requires.sent c.index-sent-message.is c.in_ok-sent.ensures in
+    have_key c.in_ok-sent.sent.receiver c.in_ok-sent.sent.group c.index-key.result.now _ _
+    (c.index-key.ensures
+    ∙ key_is c.args.self.now.writer.entries c.args.self.now.messages c.args.message c.in_ok-sent.sent c.index-key.result.now c.requires.plays.messages is)
+    (said_now c.args.self.now.writer.messages _ _
+    (c.in_ok-message.ensures.steps (groups_in (world_of c.args.world.now) c.args.self.now.writer.entries).parts c.requires.plays.parts).messages
+    c.requires.plays.nothing_sent)
 
 pub returns-clause-plays : goal.returns-clause-plays
 returns-clause-plays c =
-    let here : After-sent_at-sent = (goal.at.returns-clause-plays c).After-sent_at-sent in
-    let s = c.sent_at-sent.result.now in
+    let is = sent_is c.args.self.now.writer.entries c.sent.result.now c.args.self.now.writer.messages c.args.message c.index-sent-message.result
+    c.in_ok-sent.sent c.sent.ensures c.requires.plays.nothing_sent c.requires.sent c.index-sent-message.is c.in_ok-sent.ensures in
+    let s = c.in_ok-sent.sent in
     let at : Visit = record { node = s.receiver; group = s.group; input = Comes s.sender s.message } in
     let v : GroupEvent = event.Deliver c.args.message in
-    let parts = (groups_in (world_of c.args.world.now) c.args.self.now.entries).parts in
-    still_plays c.args.world.now c.args.self.now c.add.new.self v at c.in_ok-said.said c.requires.plays (ap visit_of (found here))
-    (subst (λ (t : Seats). StepsTo (world_of c.args.world.now) t parts at c.in_ok-said.said) (sym c.in_ok-add.ensures.seats)
-    (c.in_ok-said.ensures.steps parts c.requires.plays.parts)) c.in_ok-add.ensures.entries
-    (receiver_is_node (setting_of c.args.world.now) c.args.world.now.entries c.args.self.now.entries c.requires.legal c.requires.plays.legal c.args.message
-    s (found here)) tt
-    (subst AreSeats (sym c.in_ok-add.ensures.seats) c.in_ok-said.ensures.seats) c.in_ok-add.ensures.messages
+    let parts = (groups_in (world_of c.args.world.now) c.args.self.now.writer.entries).parts in
+    still_plays c.args.world.now c.args.self.now c.close.new.self v at c.message.new.writer c.requires.plays (ap visit_of is)
+    (subst (λ (t : Seats). StepsTo (world_of c.args.world.now) t parts at c.args.self.now.writer c.message.new.writer) (sym c.in_ok-close.ensures.seats)
+    (c.in_ok-message.ensures.steps parts c.requires.plays.parts)) c.in_ok-close.ensures.entries
+    (receiver_is_node (setting_of c.args.world.now) c.args.world.now.entries c.args.self.now.writer.entries c.requires.legal c.requires.plays.legal
+    c.args.message s is) tt (subst AreKeys (sym c.in_ok-close.ensures.keys) c.requires.plays.keys)
+    (subst AreSeats (sym c.in_ok-close.ensures.seats) c.in_ok-message.ensures.seats) c.in_ok-close.ensures.messages
+    c.in_ok-close.ensures.nothing_sent c.in_ok-close.ensures.nothing_noted
+
+pub returns-clause-entries : goal.returns-clause-entries
+returns-clause-entries c =
+    let is = sent_is c.args.self.now.writer.entries c.sent.result.now c.args.self.now.writer.messages c.args.message c.index-sent-message.result
+    c.in_ok-sent.sent c.sent.ensures c.requires.plays.nothing_sent c.requires.sent c.index-sent-message.is c.in_ok-sent.ensures in
+    let s = c.in_ok-sent.sent in
+    let at : Visit = record { node = s.receiver; group = s.group; input = Comes s.sender s.message } in
+    let v : GroupEvent = event.Deliver c.args.message in
+    let parts = (groups_in (world_of c.args.world.now) c.args.self.now.writer.entries).parts in
+    is_happened c.args.world.now c.args.self.now c.close.new.self v at c.message.new.writer c.requires.plays (ap visit_of is)
+    (subst (λ (t : Seats). StepsTo (world_of c.args.world.now) t parts at c.args.self.now.writer c.message.new.writer) (sym c.in_ok-close.ensures.seats)
+    (c.in_ok-message.ensures.steps parts c.requires.plays.parts)) c.in_ok-close.ensures.entries

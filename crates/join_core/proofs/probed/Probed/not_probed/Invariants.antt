@@ -3,5 +3,5 @@ use Rattle.std.proofs.Common.{◌≡◌, take}
 use Rattle.join_core.specs.Probes.{new_of}
 use Rattle.join_core.proofs.probed.Probed.not_probed.Given as goal
 
-abbrev pub invariant-loop-leaf : goal.invariant-loop-leaf
-invariant-loop-leaf l = l.more ≡ new_of l.self (take l.leaf-index l.leafs)
+abbrev pub invariant-loop-place : goal.invariant-loop-place
+invariant-loop-place l = l.more ≡ new_of l.self (take l.place l.leafs)

@@ -1,4 +1,4 @@
-use Rattle.std.proofs.Common.{◌≡◌, ◌<◌, ◌∙◌, length, vec_len, sym, arith}
+use Rattle.std.proofs.Common.{◌≡◌, ◌∙◌, vec_len, sym, arith}
 use Rattle.std.proofs.lemmas.Bool.{eqb-false, eqb-true}
 use Rattle.std.proofs.lemmas.Result.{on_ok_weaker}
 use Rattle.node_service.proofs.Sessions.{ended_none, ended_one}

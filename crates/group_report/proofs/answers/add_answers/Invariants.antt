@@ -1,9 +1,0 @@
-use Rattle.std.proofs.Common.{◌≡◌, ℕ, nat_cmp, take}
-use Rattle.std.specs.BTreeMap.{get}
-use Rattle.group_report.specs.Answers.{answer_to, or_later}
-use Rattle.group_report.proofs.answers.add_answers.Given as goal
-
--- the answers before, and then those in the notes so far
-abbrev pub invariant-loop-note : goal.invariant-loop-note
-invariant-loop-note l =
-    (n : ℕ) → get nat_cmp l.answers n ≡ or_later (get nat_cmp l.initial.answers n) (answer_to n (take l.note-index l.notes))
