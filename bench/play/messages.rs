@@ -6,7 +6,7 @@ type Bytes = Rc<[u8]>;
 type Ids = Rc<[Id]>;
 type Files = Rc<[File]>;
 
-#[derive(Clone)]
+#[derive(Clone, PartialEq)]
 enum Reply {
     Delivered(Id, u16),
     Stored(Ids),
@@ -21,30 +21,33 @@ enum Reply {
     Reclaimed(Id),
 }
 
+#[derive(PartialEq)]
 struct Found {
     node: Id,
     bytes: Bytes,
 }
 
+#[derive(PartialEq)]
 struct Busy {
     node: Id,
     joiner: Id,
 }
 
-#[derive(Clone)]
+#[derive(Clone, PartialEq)]
 enum Why {
     Busy(Id),
     Moved(Rc<(Id, Id)>),
     NotReady,
 }
 
-#[derive(Clone, Copy)]
+#[derive(Clone, Copy, PartialEq)]
 enum Own {
     GivenUp,
     Already,
     Spent,
 }
 
+#[derive(PartialEq)]
 enum Answer {
     Reply(Reply),
     Joined(Box<(Id, Id)>),
@@ -55,6 +58,7 @@ enum Answer {
 }
 
 /// A file to keep, and on how many nodes.
+#[derive(PartialEq)]
 struct Insert {
     file: File,
     copies: u8,
@@ -70,7 +74,25 @@ enum Request {
     Reclaim(File),
 }
 
+/// What a reply answers.
+#[derive(Clone, Copy, PartialEq)]
+enum Asked {
+    Lookup,
+    Insert,
+    Fetch,
+    Reclaim,
+}
+
 impl Request {
+    fn asked(&self) -> Asked {
+        match self {
+            Request::Lookup(_) => Asked::Lookup,
+            Request::Insert(_) => Asked::Insert,
+            Request::Fetch(_) => Asked::Fetch,
+            Request::Reclaim(_) => Asked::Reclaim,
+        }
+    }
+
     fn key(&self) -> Id {
         match self {
             Request::Lookup(key) => *key,
@@ -93,23 +115,26 @@ struct Asker {
     number: u64,
 }
 
+#[derive(PartialEq)]
 struct Replica {
     asker: Asker,
     file: File,
     bytes: Bytes,
 }
 
+#[derive(PartialEq)]
 struct Handover {
     file: File,
     bytes: Bytes,
 }
 
+#[derive(PartialEq)]
 enum Message {
     Lookup(Asker, u16, Id),
     Insert(Asker, u16, Rc<Insert>),
     Fetch(Asker, u16, File),
     Reclaim(Asker, u16, File),
-    Answer(u64, Reply),
+    Answer(Asked, u64, Reply),
     JoinRequest(Id, u32, u16),
     JoinReply(u32, Ids),
     JoinRefuse(u32, Why),
@@ -137,6 +162,7 @@ impl Message {
     }
 }
 
+#[derive(PartialEq)]
 enum Note {
     Accepted(Box<Handover>),
     Delivered(Asker, Id, u16),

@@ -177,8 +177,8 @@ impl Node {
     /// A request comes here: it is passed on, refused, or served.
     fn route(&mut self, step: &mut Step, asker: Asker, hops: u16, request: Request) {
         match self.hop(request.key()) {
-            Hop::NotReady => step.reply(asker, Reply::NotReady(self.me)),
-            Hop::Gap(joiner) => step.reply(asker, Reply::Busy(Rc::new(Busy { node: self.me, joiner }))),
+            Hop::NotReady => step.reply(request.asked(), asker, Reply::NotReady(self.me)),
+            Hop::Gap(joiner) => step.reply(request.asked(), asker, Reply::Busy(Rc::new(Busy { node: self.me, joiner }))),
             Hop::To(next) => step.send(next, Message::of(asker, hops.saturating_add(1), request)),
             Hop::Here => self.serve(step, asker, hops, request),
         }
@@ -188,9 +188,9 @@ impl Node {
         match request {
             Request::Lookup(key) => {
                 step.notes.push(Note::Delivered(asker, key, hops));
-                step.reply(asker, Reply::Delivered(self.me, hops));
+                step.reply(Asked::Lookup, asker, Reply::Delivered(self.me, hops));
             }
-            Request::Fetch(file) => step.reply(asker, self.fetched(&file)),
+            Request::Fetch(file) => step.reply(Asked::Fetch, asker, self.fetched(&file)),
             Request::Reclaim(file) => self.reclaim(step, asker, &file),
             Request::Insert(insert) => self.insert(step, asker, &insert),
         }
@@ -211,10 +211,10 @@ impl Node {
                 self.files.set(file, None);
                 step.notes.push(Note::Reclaimed(*file));
                 self.end_pending(step, |ask| ask.file == *file, || Reply::Gone(me));
-                step.reply(asker, Reply::Reclaimed(me));
+                step.reply(Asked::Reclaim, asker, Reply::Reclaimed(me));
             }
-            Some(None) => step.reply(asker, Reply::Reclaimed(me)),
-            None => step.reply(asker, Reply::NotFound(me)),
+            Some(None) => step.reply(Asked::Reclaim, asker, Reply::Reclaimed(me)),
+            None => step.reply(Asked::Reclaim, asker, Reply::NotFound(me)),
         }
     }
 
@@ -223,7 +223,7 @@ impl Node {
         self.pending.retain(|ask| {
             let over = ends(ask);
             if over {
-                step.reply(ask.asker, reply());
+                step.reply(Asked::Insert, ask.asker, reply());
             }
             !over
         });
@@ -232,7 +232,7 @@ impl Node {
     fn insert(&mut self, step: &mut Step, asker: Asker, insert: &Insert) {
         let Insert { file, copies, bytes } = insert;
         match self.refusal(insert) {
-            Some(reply) => return step.reply(asker, reply),
+            Some(reply) => return step.reply(Asked::Insert, asker, reply),
             None if !self.files.contains(file) => {
                 self.files.set(file, Some(bytes.clone()));
                 step.notes.push(Note::Accepted(Box::new(Handover { file: *file, bytes: bytes.clone() })));
@@ -241,7 +241,7 @@ impl Node {
         }
         let targets = self.known.nearest_leaves(key_of(file), *copies as usize - 1);
         if targets.is_empty() {
-            return step.reply(asker, Reply::Stored([self.me].into()));
+            return step.reply(Asked::Insert, asker, Reply::Stored([self.me].into()));
         }
         self.pending.retain(|ask| ask.asker != asker);
         let replica = Rc::new(Replica { asker, file: *file, bytes: bytes.clone() });
@@ -285,7 +285,7 @@ impl Node {
         if self.pending[at].awaited.is_empty() {
             let targets = self.pending.remove(at).targets;
             let holders = std::iter::once(self.me).chain(targets).collect();
-            step.reply(asker, Reply::Stored(holders));
+            step.reply(Asked::Insert, asker, Reply::Stored(holders));
         }
     }
 
@@ -302,7 +302,7 @@ impl Node {
             Message::Insert(asker, hops, insert) => self.route(step, *asker, *hops, Request::Insert(insert.clone())),
             Message::Fetch(asker, hops, file) => self.route(step, *asker, *hops, Request::Fetch(*file)),
             Message::Reclaim(asker, hops, file) => self.route(step, *asker, *hops, Request::Reclaim(*file)),
-            Message::Answer(number, reply) => self.on_answer(step, *number, reply),
+            Message::Answer(_, number, reply) => self.on_answer(step, *number, reply),
             Message::Replicate(replica) => self.on_replica(step, from, replica),
             Message::ReplicaAck(asker, file) => self.on_ack(step, from, *asker, file),
             Message::Announce => self.known.learn(from),

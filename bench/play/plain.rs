@@ -1,7 +1,7 @@
 //! The program in plain Rust, without contracts, made to be fast: reads a scenario from standard input, plays it, and prints its
 //! report. It takes only scenarios that are right. It keeps the whole record, as the proved program does. With the words `made
-//! NODES SEED` it prints the scenario that the proved program's `big` plays; with `large NODES SEED SIZE`, `points ROOM` and `groups`
-//! it does what the modes of these names do.
+//! NODES SEED` it prints the scenario that the proved program's `big` plays; with `large NODES SEED SIZE`, `points ROOM`, `groups`,
+//! `trace` and `check` it does what the modes of these names do.
 #![allow(dead_code)]
 
 use std::collections::{BTreeMap, HashMap, HashSet};
@@ -21,6 +21,8 @@ include!("made.rs");
 include!("large.rs");
 include!("points.rs");
 include!("groups.rs");
+include!("traced.rs");
+include!("checked.rs");
 
 fn play_input() {
     let mut input = String::new();
@@ -62,6 +64,27 @@ fn play_groups() {
     std::mem::forget((world, groups));
 }
 
+fn trace_input() {
+    let mut input = String::new();
+    std::io::stdin().read_to_string(&mut input).unwrap();
+    let mut declared = Declared::of(&input);
+    let nodes = std::mem::take(&mut declared.nodes);
+    let founder = nodes.iter().find(|node| matches!(node.phase, Phase::Ready(..))).unwrap().me;
+    let mut world = World::new(nodes);
+    play(&declared, &mut world, &input);
+    let ids: Vec<Id> = declared.named.iter().map(|(_, id)| *id).collect();
+    std::io::stdout().write_all(&trace(&world, &ids, founder)).unwrap();
+    std::mem::forget(world);
+}
+
+fn check_input() {
+    let mut input = String::new();
+    std::io::stdin().read_to_string(&mut input).unwrap();
+    let trace = Trace::read(&input).unwrap();
+    print!("{}", verdict(&trace));
+    std::mem::forget((trace, input));
+}
+
 fn main() {
     let words: Vec<String> = std::env::args().skip(1).collect();
     match &words[..] {
@@ -72,6 +95,8 @@ fn main() {
         }
         [word, room] if word == "points" => play_input_with_points(room.parse().unwrap()),
         [word] if word == "groups" => play_groups(),
+        [word] if word == "trace" => trace_input(),
+        [word] if word == "check" => check_input(),
         _ => play_input(),
     }
 }

@@ -93,9 +93,9 @@ impl Step {
         }
     }
 
-    fn reply(&mut self, asker: Asker, reply: Reply) {
+    fn reply(&mut self, asked: Asked, asker: Asker, reply: Reply) {
         self.notes.push(Note::Answered(asker, reply.clone()));
-        self.send(asker.origin, Message::Answer(asker.number, reply));
+        self.send(asker.origin, Message::Answer(asked, asker.number, reply));
     }
 
     fn close(&mut self, number: u64, answer: Answer) {
