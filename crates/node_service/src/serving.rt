@@ -39,27 +39,29 @@ pub fn serve_node<S: Source, K: Sink>(
     ensures reads { S.faults source.old ≤ S.faults source.new }
     ensures writes { K.faults sink.old ≤ K.faults sink.new }
 {
-    serve(alloc, source, sink)
+    let mut session = Session::new(alloc);
+    serve(alloc, &mut session, source, sink)
 }
 
-/// Serves a node, one piece after another.
+/// Serves a node from its first line on, one piece after another.
 fn serve<S: Source, K: Sink>(
     alloc: Global,
+    session: &mut Session,
     source: &mut S,
     sink: &mut K,
 ) -> Result<(), ServiceFault>
+    requires { IsFar session.old [] None }
     ensures calls { Serves S.gives S.left K.takes K.taken [] None source.old sink.old result source.new sink.new }
     ensures unread { result ≡ Err ServiceFault.Read → Rose (S.faults source.old) (S.faults source.new) }
     ensures unwritten { result ≡ Err ServiceFault.Write → Rose (K.faults sink.old) (K.faults sink.new) }
     ensures reads { S.faults source.old ≤ S.faults source.new }
     ensures writes { K.faults sink.old ≤ K.faults sink.new }
 {
-    let mut session = Session::new(alloc);
     let mut buf = [0; MOST_PIECE];
     for _ in 0..u64::MAX {
         match source.read_some(&mut buf) {
-            Piece::Got(count) => serve_piece(alloc, &mut session, &buf[..count], sink)?,
-            Piece::End => return serve_last(alloc, &mut session, sink),
+            Piece::Got(count) => serve_piece(alloc, session, &buf[..count], sink)?,
+            Piece::End => return serve_last(alloc, session, sink),
             Piece::Failed => return Err(ServiceFault::Read),
         }
     }
