@@ -55,30 +55,31 @@ const JOINER_ANSWERS: &[u8] = b"done 0\n\
     answered 10000000000000000000000000000000 1 delivered by 90000000000000000000000000000000 hops 1\n\
     done 11\n";
 
-/// How a service of these lines ends that come in pieces of so many bytes, and what was taken of its answers.
-fn served(
+/// Whether a service between these two ends so, and the sink then has these bytes.
+fn ends_so(
     alloc: Global,
-    lines: &[u8],
-    per_call: usize,
-) -> Result<(Result<(), ServiceFault>, Vec<u8>), Fail>
+    source: &mut MemorySource,
+    sink: &mut MemorySink,
+    end: Result<(), ServiceFault>,
+    taken: &[u8],
+) -> bool {
+    serve_node(alloc, source, sink) == end && sink.taken() == taken
+}
+
+/// Whether these are the answers to lines that come in pieces of so many bytes.
+fn is_answered(alloc: Global, lines: &[u8], per_call: usize, answers: &[u8]) -> Result<bool, Fail>
     requires { 0 < per_call }
 {
     let mut source = MemorySource::new(alloc, lines, per_call, &[])?;
     let mut sink = MemorySink::new(alloc, 4_000, 4_000, &[])?;
-    let end = serve_node(alloc, &mut source, &mut sink);
-    let taken = sink.taken().to_vec(alloc)?;
-    Ok((end, taken))
+    Ok(ends_so(alloc, &mut source, &mut sink, Ok(()), answers))
 }
 
 /// Two processes, by hand: what the one sends comes to the other.
 #[test]
 fn two_nodes_talk(rt: HostRuntime) -> Result<(), Fail> {
-    let (end, answers) = served(rt.alloc(), FOUNDER_LINES, 4_000)?;
-    assert_eq!(rt; end, Ok(()));
-    assert!(rt; answers.as_slice() == FOUNDER_ANSWERS);
-    let (end, answers) = served(rt.alloc(), JOINER_LINES, 7)?;
-    assert_eq!(rt; end, Ok(()));
-    assert!(rt; answers.as_slice() == JOINER_ANSWERS);
+    assert!(rt; is_answered(rt.alloc(), FOUNDER_LINES, 4_000, FOUNDER_ANSWERS)?);
+    assert!(rt; is_answered(rt.alloc(), JOINER_LINES, 7, JOINER_ANSWERS)?);
     Ok(())
 }
 
@@ -114,9 +115,7 @@ fn each_line_is_answered(rt: HostRuntime) -> Result<(), Fail> {
     refused no hexadecimal at 7\n\
     closed 2 nothing to give up\n\
     done 5\n";
-    let (end, answers) = served(rt.alloc(), lines, 50)?;
-    assert_eq!(rt; end, Ok(()));
-    assert!(rt; answers.as_slice() == due.as_slice());
+    assert!(rt; is_answered(rt.alloc(), lines, 50, due)?);
     Ok(())
 }
 
@@ -128,70 +127,57 @@ fn long_lines(alloc: Global, length: usize) -> Result<Vec<u8>, Fail> {
     Ok(lines)
 }
 
+/// Whether these are the answers where the line behind the one that names the founder ends at this byte.
+fn is_long_answered(alloc: Global, length: usize, answers: &[u8]) -> Result<bool, Fail> {
+    let lines = long_lines(alloc, length)?;
+    is_answered(alloc, lines.as_slice(), 4_096, answers)
+}
+
 /// A line that is too long is read to its end, and the node goes on; one byte less, and it brings bytes, which are noise.
 #[test]
 fn a_long_line_is_refused(rt: HostRuntime) -> Result<(), Fail> {
-    let lines = long_lines(rt.alloc(), 41 + 400_001)?;
-    let (end, answers) = served(rt.alloc(), lines.as_slice(), 4_096)?;
-    assert_eq!(rt; end, Ok(()));
     let due = b"done 0\nrefused too long\nclosed 1 nothing to give up\ndone 1\n";
-    assert!(rt; answers.as_slice() == due.as_slice());
-    let lines = long_lines(rt.alloc(), 41 + 400_000)?;
-    let (end, answers) = served(rt.alloc(), lines.as_slice(), 4_096)?;
-    assert_eq!(rt; end, Ok(()));
+    assert!(rt; is_long_answered(rt.alloc(), 41 + 400_001, due)?);
     let due = b"done 0\ndone 1\nclosed 1 nothing to give up\ndone 2\n";
-    assert!(rt; answers.as_slice() == due.as_slice());
+    assert!(rt; is_long_answered(rt.alloc(), 41 + 400_000, due)?);
     Ok(())
 }
 
-/// The least service, of which one call of the source or of the sink fails: how it ends, and what was taken.
-fn failing(
+/// Whether the least service ends so where these calls of the source and of the sink fail, and these are the bytes that were taken.
+fn fails_so(
     alloc: Global,
     reads: &[u64],
     writes: &[u64],
-) -> Result<(Result<(), ServiceFault>, Vec<u8>), Fail> {
+    end: Result<(), ServiceFault>,
+    taken: &[u8],
+) -> Result<bool, Fail> {
     let lines = b"founder 10000000000000000000000000000000\ngiveup\n";
     let mut source = MemorySource::new(alloc, lines, 41, reads)?;
     let mut sink = MemorySink::new(alloc, 100, 20, writes)?;
-    let end = serve_node(alloc, &mut source, &mut sink);
-    let taken = sink.taken().to_vec(alloc)?;
-    Ok((end, taken))
+    Ok(ends_so(alloc, &mut source, &mut sink, end, taken))
 }
+
+/// What the least service answers.
+const LEAST_ANSWERS: &[u8] = b"done 0\nclosed 1 nothing to give up\ndone 1\n";
 
 /// Each read of the least service fails in turn: whatever came before it is answered whole.
 #[test]
 fn each_read_fails(rt: HostRuntime) -> Result<(), Fail> {
-    let (end, taken) = failing(rt.alloc(), &[1], &[])?;
-    assert_eq!(rt; end, Err(ServiceFault::Read));
-    assert!(rt; taken.as_slice().is_empty());
-    let (end, taken) = failing(rt.alloc(), &[2], &[])?;
-    assert_eq!(rt; end, Err(ServiceFault::Read));
-    assert!(rt; taken.as_slice() == b"done 0\n".as_slice());
-    let whole = b"done 0\nclosed 1 nothing to give up\ndone 1\n";
-    let (end, taken) = failing(rt.alloc(), &[3], &[])?;
-    assert_eq!(rt; end, Err(ServiceFault::Read));
-    assert!(rt; taken.as_slice() == whole.as_slice());
-    let (end, taken) = failing(rt.alloc(), &[4], &[])?;
-    assert_eq!(rt; end, Ok(()));
-    assert!(rt; taken.as_slice() == whole.as_slice());
+    let end = Err(ServiceFault::Read);
+    assert!(rt; fails_so(rt.alloc(), &[1], &[], end, b"")?);
+    assert!(rt; fails_so(rt.alloc(), &[2], &[], end, b"done 0\n")?);
+    assert!(rt; fails_so(rt.alloc(), &[3], &[], end, LEAST_ANSWERS)?);
+    assert!(rt; fails_so(rt.alloc(), &[4], &[], Ok(()), LEAST_ANSWERS)?);
     Ok(())
 }
 
 /// Each write of the least service fails in turn: what was taken is the beginning of what is due.
 #[test]
 fn each_write_fails(rt: HostRuntime) -> Result<(), Fail> {
-    let (end, taken) = failing(rt.alloc(), &[], &[1])?;
-    assert_eq!(rt; end, Err(ServiceFault::Write));
-    assert!(rt; taken.as_slice().is_empty());
-    let (end, taken) = failing(rt.alloc(), &[], &[2])?;
-    assert_eq!(rt; end, Err(ServiceFault::Write));
-    assert!(rt; taken.as_slice() == b"done 0\n".as_slice());
-    let (end, taken) = failing(rt.alloc(), &[], &[3])?;
-    assert_eq!(rt; end, Err(ServiceFault::Write));
-    assert!(rt; taken.as_slice() == b"done 0\nclosed 1 nothing to ".as_slice());
-    let whole = b"done 0\nclosed 1 nothing to give up\ndone 1\n";
-    let (end, taken) = failing(rt.alloc(), &[], &[4])?;
-    assert_eq!(rt; end, Ok(()));
-    assert!(rt; taken.as_slice() == whole.as_slice());
+    let end = Err(ServiceFault::Write);
+    assert!(rt; fails_so(rt.alloc(), &[], &[1], end, b"")?);
+    assert!(rt; fails_so(rt.alloc(), &[], &[2], end, b"done 0\n")?);
+    assert!(rt; fails_so(rt.alloc(), &[], &[3], end, b"done 0\nclosed 1 nothing to ")?);
+    assert!(rt; fails_so(rt.alloc(), &[], &[4], Ok(()), LEAST_ANSWERS)?);
     Ok(())
 }
