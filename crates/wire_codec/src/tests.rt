@@ -1,7 +1,6 @@
 use super::*;
 use ring_math::{Bytes, FileId, FileIds, Id, Ids, IdsBuilder};
 use std::alloc::Global;
-use std::process::Abort;
 use std::test::Fail;
 use wire_msg::{Answer, Command, Copies, Envelope, Message, Note, Own, Reply, Why};
 
@@ -28,46 +27,68 @@ fn sent(message: Message) -> Envelope {
     }
 }
 
-fn refuses(rt: &impl Abort, alloc: Global, bytes: &[u8], fault: FrameFault) {
-    assert_eq!(rt; decode(alloc, bytes).err(), Some(fault), "{bytes:?}");
-    assert!(rt; !is_frame(bytes), "{bytes:?}");
+/// Whether these bytes are no frame, for this reason.
+fn is_refused(alloc: Global, bytes: &[u8], fault: FrameFault) -> bool {
+    match decode(alloc, bytes) {
+        Ok(_) => false,
+        Err(found) => found == fault && !is_frame(bytes),
+    }
+}
+
+fn is_announce(envelope: &Envelope) -> bool {
+    envelope.sender == TEN
+        && envelope.receiver == THIRTY
+        && envelope.stamp == 5
+        && matches!(&envelope.message, Message::Announce)
+}
+
+fn is_spelled(alloc: Global, envelope: &Envelope, bytes: &[u8]) -> Result<bool, Fail> {
+    let frame = encode(alloc, envelope)?;
+    Ok(frame.as_slice() == bytes)
 }
 
 #[test]
-fn frame_examples(rt: HostRuntime) -> Result<(), Fail> {
+fn an_announce(rt: HostRuntime) -> Result<(), Fail> {
     let alloc = rt.alloc();
-    let frame = encode(alloc, &sent(Message::Announce))?;
-    assert_eq!(rt; frame.as_slice(), ANNOUNCE.as_slice());
+    assert!(rt; is_spelled(alloc, &sent(Message::Announce), &ANNOUNCE)?);
     assert!(rt; is_frame(&ANNOUNCE));
     let envelope = decode(alloc, &ANNOUNCE)?;
-    assert_eq!(rt;
-        (envelope.sender, envelope.receiver, envelope.stamp),
-        (TEN, THIRTY, 5)
-    );
-    assert!(rt; matches!(&envelope.message, Message::Announce));
+    assert!(rt; is_announce(&envelope));
+    Ok(())
+}
 
-    let mut longer = ANNOUNCE.as_slice().to_vec(alloc)?;
-    longer.push(0)?;
-    refuses(
-        &rt,
-        alloc,
-        &longer,
-        FrameFault::Length {
-            stated: 40,
-            found: 41,
-        },
-    );
+/// The announce with another byte at this place.
+fn changed(place: usize, byte: u8) -> [u8; 46] {
+    let mut bytes = ANNOUNCE;
+    if let Some(old) = bytes.get_mut(place) {
+        *old = byte;
+    }
+    bytes
+}
+
+#[test]
+fn a_changed_announce(rt: HostRuntime) {
     for (place, byte, fault) in [
         (1, 0x15, FrameFault::Kind { found: 21 }),
         (0, 2, FrameFault::Kind { found: 18 }),
         (0, 3, FrameFault::Version { found: 3 }),
     ] {
-        let mut bytes = ANNOUNCE;
-        if let Some(changed) = bytes.get_mut(place) {
-            *changed = byte;
-        }
-        refuses(&rt, alloc, &bytes, fault);
+        assert!(rt;
+            is_refused(rt.alloc(), &changed(place, byte), fault),
+            "{place}"
+        );
     }
+}
+
+#[test]
+fn a_longer_announce(rt: HostRuntime) -> Result<(), Fail> {
+    let mut longer = ANNOUNCE.as_slice().to_vec(rt.alloc())?;
+    longer.push(0)?;
+    let fault = FrameFault::Length {
+        stated: 40,
+        found: 41,
+    };
+    assert!(rt; is_refused(rt.alloc(), &longer, fault));
     Ok(())
 }
 
@@ -82,7 +103,7 @@ fn frame_prefixes(rt: HostRuntime) {
                 found: n - 6,
             }
         };
-        refuses(&rt, rt.alloc(), &ANNOUNCE[..n], fault);
+        assert!(rt; is_refused(rt.alloc(), &ANNOUNCE[..n], fault), "{n}");
     }
 }
 
@@ -115,35 +136,38 @@ fn all_ids(alloc: Global) -> Result<Ids, Fail> {
     Ok(ids.finish(alloc)?)
 }
 
+/// The frame of a grant with so many tombstones.
+fn grant(alloc: Global, tombs: u16) -> Result<Vec<u8>, Fail> {
+    let manifest = no_files(alloc)?;
+    let grant = Message::Grant {
+        attempt: 1,
+        manifest,
+        tombs: files(alloc, tombs)?,
+    };
+    let frame = encode(alloc, &sent(grant))?;
+    Ok(frame.as_slice().to_vec(alloc)?)
+}
+
 #[test]
-fn grants_and_copies(rt: HostRuntime) -> Result<(), Fail> {
-    let alloc = rt.alloc();
-    let grant = Message::Grant {
-        attempt: 1,
-        manifest: no_files(alloc)?,
-        tombs: no_files(alloc)?,
-    };
-    let frame = encode(alloc, &sent(grant))?;
-    assert!(rt; frame.as_slice().starts_with(&[1, 0x0d, 0, 0, 0, 0x2e]));
-    assert!(rt; frame.as_slice().ends_with(&[0, 0, 0, 1, 0, 0]));
-    assert_eq!(rt; frame.as_slice().len(), 52);
+fn a_grant_without_tombstones(rt: HostRuntime) -> Result<(), Fail> {
+    let frame = grant(rt.alloc(), 0)?;
+    assert!(rt; frame.starts_with(&[1, 0x0d, 0, 0, 0, 0x2e]));
+    assert!(rt; frame.ends_with(&[0, 0, 0, 1, 0, 0]));
+    assert!(rt; frame.len() == 52);
+    Ok(())
+}
 
-    let grant = Message::Grant {
-        attempt: 1,
-        manifest: no_files(alloc)?,
-        tombs: files(alloc, 1)?,
-    };
-    let frame = encode(alloc, &sent(grant))?;
-    assert!(rt; frame.as_slice().starts_with(&[2, 0x0d, 0, 0, 0, 0x44]));
-    assert_eq!(rt; frame.as_slice().len(), 74);
+#[test]
+fn a_grant_with_a_tombstone(rt: HostRuntime) -> Result<(), Fail> {
+    let mut frame = grant(rt.alloc(), 1)?;
+    assert!(rt; frame.starts_with(&[2, 0x0d, 0, 0, 0, 0x44]));
+    assert!(rt; frame.len() == 74);
     let fields = [0, 0, 0, 1, 0, 0, 0, 1];
-    assert!(rt; frame.as_slice().get(46..54) == Some(fields.as_slice()));
-
-    let mut bytes = frame.as_slice().to_vec(alloc)?;
-    if let Some(count) = bytes.get_mut(53) {
+    assert!(rt; frame.get(46..54) == Some(fields.as_slice()));
+    if let Some(count) = frame.get_mut(53) {
         *count = 0;
     }
-    refuses(&rt, alloc, &bytes, FrameFault::Range { place: 52 });
+    assert!(rt; is_refused(rt.alloc(), &frame, FrameFault::Range { place: 52 }));
     Ok(())
 }
 
@@ -158,6 +182,21 @@ fn insert(alloc: Global, bytes: &[u8]) -> Result<Message, Fail> {
     })
 }
 
+/// Whether the frame is refused so, with another byte at this place.
+fn is_refused_with(
+    frame: &[u8],
+    alloc: Global,
+    place: usize,
+    byte: u8,
+    fault: FrameFault,
+) -> Result<bool, Fail> {
+    let mut bytes = frame.to_vec(alloc)?;
+    if let Some(old) = bytes.get_mut(place) {
+        *old = byte;
+    }
+    Ok(is_refused(alloc, &bytes, fault))
+}
+
 #[test]
 fn parts_of_an_insert(rt: HostRuntime) -> Result<(), Fail> {
     let alloc = rt.alloc();
@@ -170,11 +209,10 @@ fn parts_of_an_insert(rt: HostRuntime) -> Result<(), Fail> {
         (94, 2, FrameFault::Short { need: 97 }),
         (94, 0, FrameFault::Range { place: 95 }),
     ] {
-        let mut bytes = frame.as_slice().to_vec(alloc)?;
-        if let Some(changed) = bytes.get_mut(place) {
-            *changed = byte;
-        }
-        refuses(&rt, alloc, &bytes, fault);
+        assert!(rt;
+            is_refused_with(frame.as_slice(), alloc, place, byte, fault)?,
+            "{place}"
+        );
     }
     Ok(())
 }
@@ -349,24 +387,22 @@ const FRAMES: [(u8, u8, u8, u32); 36] = [
     (22, 11, 2, 65),
 ];
 
+/// Whether these bytes are a frame, and the spelling of what they are read as.
+fn is_spelling(alloc: Global, frame: &[u8]) -> Result<bool, Fail> {
+    let back = decode(alloc, frame)?;
+    Ok(is_frame(frame) && is_spelled(alloc, &back, frame)?)
+}
+
 #[test]
 fn there_and_back(rt: HostRuntime) -> Result<(), Fail> {
     let alloc = rt.alloc();
     for (kind, tag, version, length) in FRAMES {
         let frame = encode(alloc, &sent(message(alloc, kind, tag)?))?;
-        assert!(rt;
-            frame.as_slice().starts_with(&[version, kind]),
-            "kind {kind}"
-        );
-        assert_eq!(rt;
-            frame.as_slice().get(2..6),
-            Some(length.to_be_bytes().as_slice()),
-            "kind {kind}"
-        );
-        assert!(rt; is_frame(frame.as_slice()), "kind {kind}");
-        let back = decode(alloc, frame.as_slice())?;
-        let again = encode(alloc, &back)?;
-        assert_eq!(rt; again.as_slice(), frame.as_slice(), "kind {kind}");
+        let frame = frame.as_slice();
+        let length = length.to_be_bytes();
+        assert!(rt; frame.starts_with(&[version, kind]), "kind {kind}");
+        assert!(rt; frame.get(2..6) == Some(length.as_slice()), "kind {kind}");
+        assert!(rt; is_spelling(alloc, frame)?, "kind {kind}");
     }
     Ok(())
 }
@@ -415,16 +451,23 @@ fn command(alloc: Global, tag: u8) -> Result<(Command, Vec<u8>), Fail> {
     ))
 }
 
+fn is_command_spelled(alloc: Global, command: &Command, spelled: &[u8]) -> Result<bool, Fail> {
+    let bytes = encode_command(alloc, command)?;
+    Ok(bytes.as_slice() == spelled)
+}
+
+fn is_command_read(alloc: Global, spelled: &[u8]) -> Result<bool, Fail> {
+    let back = decode_command(alloc, spelled)?;
+    is_command_spelled(alloc, &back, spelled)
+}
+
 #[test]
 fn commands_there_and_back(rt: HostRuntime) -> Result<(), Fail> {
     let alloc = rt.alloc();
     for tag in 1..7 {
         let (said, spelled) = command(alloc, tag)?;
-        let bytes = encode_command(alloc, &said)?;
-        assert_eq!(rt; bytes.as_slice(), spelled.as_slice(), "tag {tag}");
-        let back = decode_command(alloc, &spelled)?;
-        let again = encode_command(alloc, &back)?;
-        assert_eq!(rt; again.as_slice(), spelled.as_slice(), "tag {tag}");
+        assert!(rt; is_command_spelled(alloc, &said, &spelled)?, "tag {tag}");
+        assert!(rt; is_command_read(alloc, &spelled)?, "tag {tag}");
     }
     Ok(())
 }
@@ -495,24 +538,35 @@ const NOTES: [(u8, u8, u8, usize); 11] = [
     (17, 4, 6, 10),
 ];
 
+/// Whether these bytes are a note, and the spelling of what they are read as.
+fn is_note(alloc: Global, bytes: &[u8]) -> Result<bool, Fail> {
+    let back = decode_note(alloc, bytes)?;
+    let again = encode_note(alloc, &back)?;
+    Ok(again.as_slice() == bytes)
+}
+
 #[test]
 fn notes_there_and_back(rt: HostRuntime) -> Result<(), Fail> {
     let alloc = rt.alloc();
     for (tag, first, last, length) in NOTES {
         let bytes = encode_note(alloc, &note(alloc, tag)?)?;
-        assert_eq!(rt; bytes.as_slice().len(), length, "note {tag}");
-        assert_eq!(rt; bytes.as_slice().first(), Some(&first), "note {tag}");
-        assert_eq!(rt; bytes.as_slice().last(), Some(&last), "note {tag}");
-        let back = decode_note(alloc, bytes.as_slice())?;
-        let again = encode_note(alloc, &back)?;
-        assert_eq!(rt; again.as_slice(), bytes.as_slice(), "note {tag}");
+        let bytes = bytes.as_slice();
+        assert!(rt; bytes.len() == length, "note {tag}");
+        assert!(rt;
+            bytes.first() == Some(&first) && bytes.last() == Some(&last),
+            "note {tag}"
+        );
+        assert!(rt; is_note(alloc, bytes)?, "note {tag}");
     }
     Ok(())
 }
 
+fn is_command_refused(alloc: Global, bytes: &[u8], fault: FrameFault) -> bool {
+    matches!(decode_command(alloc, bytes), Err(found) if found == fault)
+}
+
 #[test]
-fn commands_and_notes_are_refused(rt: HostRuntime) -> Result<(), Fail> {
-    let alloc = rt.alloc();
+fn commands_are_refused(rt: HostRuntime) {
     for (bytes, fault) in [
         ([].as_slice(), FrameFault::Short { need: 1 }),
         ([0].as_slice(), FrameFault::Range { place: 0 }),
@@ -520,12 +574,16 @@ fn commands_and_notes_are_refused(rt: HostRuntime) -> Result<(), Fail> {
         ([5, 0].as_slice(), FrameFault::Range { place: 1 }),
         ([4, 0].as_slice(), FrameFault::Short { need: 21 }),
     ] {
-        assert_eq!(rt;
-            decode_command(alloc, bytes).err(),
-            Some(fault),
-            "{bytes:?}"
-        );
+        assert!(rt; is_command_refused(rt.alloc(), bytes, fault), "{bytes:?}");
     }
+}
+
+fn is_note_refused(alloc: Global, bytes: &[u8], fault: FrameFault) -> bool {
+    matches!(decode_note(alloc, bytes), Err(found) if found == fault)
+}
+
+#[test]
+fn notes_are_refused(rt: HostRuntime) {
     for (bytes, fault) in [
         ([].as_slice(), FrameFault::Short { need: 1 }),
         ([6].as_slice(), FrameFault::Range { place: 0 }),
@@ -542,7 +600,6 @@ fn commands_and_notes_are_refused(rt: HostRuntime) -> Result<(), Fail> {
             FrameFault::Range { place: 10 },
         ),
     ] {
-        assert_eq!(rt; decode_note(alloc, bytes).err(), Some(fault), "{bytes:?}");
+        assert!(rt; is_note_refused(rt.alloc(), bytes, fault), "{bytes:?}");
     }
-    Ok(())
 }
