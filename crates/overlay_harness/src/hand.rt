@@ -153,14 +153,16 @@ fn unread_at(
         return Ok(None);
     }
     let found = unread(alloc, cells, cell.me())?;
-    frame_of(alloc, found)
+    let frame = frame_of(alloc, &found);
+    drop(found);
+    frame
 }
 
 /// The frame of a message that was found.
-fn frame_of(alloc: Global, found: Option<Unread>) -> Result<Option<Frame>, OutOfMemory>
-    ensures { IfOk result (IsFrameOf found) }
+fn frame_of(alloc: Global, found: &Option<Unread>) -> Result<Option<Frame>, OutOfMemory>
+    ensures { IfOk result (IsFrameOf found.now) }
 {
-    match &found {
+    match found {
         Some(message) => Ok(Some(encode(alloc, &message.envelope)?)),
         None => Ok(None),
     }

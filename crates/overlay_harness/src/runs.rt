@@ -2,9 +2,13 @@
 
 ghost use Rattle.std.specs.Prelude.{◌≡◌, ◌≤◌, All, IfErr, IfOk, IfNone, IfSome, None, OnOk, length};
 ghost use Rattle.overlay_harness.specs.Fault.{IsDueTo, first_unfit_line};
-ghost use Rattle.weave.specs.Cells.{HasNoPasses, histories};
+ghost use Rattle.weave_laws.specs.Answered.{AllSent};
+ghost use Rattle.weave_laws.specs.Woven.{IsWoven};
+ghost use Rattle.weave.specs.Cells.{HasNoPasses, HaveOwnNodes, histories};
+ghost use Rattle.overlay_harness.specs.Clauses.{HasItsNoise};
+ghost use Rattle.overlay_harness.specs.Ran.{inputs_in};
 ghost use Rattle.overlay_harness.specs.Run.{IsRunOf};
-ghost use Rattle.overlay_harness.specs.Stages.{stages_of};
+ghost use Rattle.overlay_harness.specs.Stages.{most_copies, stages_of};
 ghost use Rattle.overlay_harness.specs.Tested.{FailTheTest};
 ghost use Rattle.overlay_harness.specs.declared.limits.TheConstants.{MOST_RUN_NODES};
 ghost use Rattle.overlay_harness.specs.Whole.{HaveKept, HaveRun};
@@ -112,6 +116,15 @@ pub fn woven_run(
 {
     cells_law(cells);
     let _founder = scenario.founder();
+    woven(alloc, cells)
+}
+
+/// The record that is woven from what cells did that took only what they sent: no envelope is stray.
+fn woven(alloc: Global, cells: &[NodeCell]) -> Result<Record, OutOfMemory>
+    requires apart { HaveOwnNodes cells.now }
+    requires sent { AllSent (histories cells.now) }
+    ensures { IfOk result (IsWoven (histories cells.now)) }
+{
     match weave(alloc, cells) {
         Ok(steps) => Ok(steps),
         Err(WeaveFault::OutOfMemory) => Err(OutOfMemory),
@@ -130,18 +143,30 @@ pub fn tested_run(
     ensures some { IfOk result (λ found. IfSome found (IsRunOf scenario.now)) }
     ensures none { IfOk result (λ found. IfNone found (FailTheTest (stages_of scenario.now) (histories cells.now))) }
 {
-    cells_law(cells);
-    let _founder = scenario.founder();
     let all = stages(alloc, scenario)?;
-    let steps = match weave(alloc, cells) {
-        Ok(steps) => steps,
-        Err(WeaveFault::OutOfMemory) => return Err(OutOfMemory),
-        Err(WeaveFault::Stray { .. }) => unreachable!(),
-    };
     if !noise_is_theirs(cells, &all) {
         return Ok(None);
     }
-    if !came_at_most(alloc, &steps.entries, most_copies(&all))? {
+    counted_run(alloc, scenario, cells, most_copies(&all))
+}
+
+/// The same record, where no noise came more often than it could, if no message came more often than so many times.
+fn counted_run(
+    alloc: Global,
+    scenario: &Scenario,
+    cells: &[NodeCell],
+    copies: u8,
+) -> Result<Option<Record>, OutOfMemory>
+    requires kept { HaveKept scenario.now cells.now }
+    requires noise { All (λ h. HasItsNoise (stages_of scenario.now) h.node (inputs_in h)) (histories cells.now) }
+    requires copies { copies ≡ most_copies (stages_of scenario.now) }
+    ensures some { IfOk result (λ found. IfSome found (IsRunOf scenario.now)) }
+    ensures none { IfOk result (λ found. IfNone found (FailTheTest (stages_of scenario.now) (histories cells.now))) }
+{
+    cells_law(cells);
+    let _founder = scenario.founder();
+    let steps = woven(alloc, cells)?;
+    if !came_at_most(alloc, &steps.entries, copies)? {
         return Ok(None);
     }
     Ok(Some(steps))

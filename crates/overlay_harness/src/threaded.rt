@@ -1,6 +1,9 @@
 //! A run by threads: what cells are given before it, its stages, and what is done when they are over.
 
-ghost use Rattle.std.specs.Prelude.{◌≡◌, ◌≤◌, ◌<◌, ◌-◌, [], All, IfOk, IfSome, IsSome, OnOk, length, map, take};
+ghost use Rattle.std.specs.Prelude.{◌≡◌, ◌≤◌, ◌<◌, ◌-◌, [], All, IfOk, IfSome, IsSome, OnOk, Some, length, map, take};
+ghost use Rattle.node_cell.specs.Carried.{just_given};
+ghost use Rattle.node_cell.specs.Cell.{empty_cell};
+ghost use Rattle.node_cell.specs.Equipped.{IsUnused};
 ghost use Rattle.node_mailbox.specs.Pass.{after_split, split_off};
 ghost use Rattle.node_mailbox.specs.Post.{AreOf};
 ghost use Rattle.node_mailbox.specs.declared.limits.TheConstants.{ALL_PARTS};
@@ -100,8 +103,7 @@ fn served_by_threads<R: Threads + Wait + Sync, T: Turnstile + Sync>(
 {
     let nodes = ids_of(alloc, scenario.nodes())?;
     let idle = IdleThreads::new(alloc, nodes.len())?;
-    let (post, mut own) = Post::new(alloc, &nodes)?;
-    let mut workers = employ(rt, alloc, scenario, &post, &mut own)?;
+    let (post, own) = Post::new(alloc, &nodes)?;
     let refused = AtomicBool::new(false);
     let hall = Hall {
         post: &post,
@@ -109,17 +111,41 @@ fn served_by_threads<R: Threads + Wait + Sync, T: Turnstile + Sync>(
         refused: &refused,
         idle: &idle,
     };
+    served_in(rt, alloc, scenario, &hall, own, all, count)
+}
+
+/// The same cells, which are served by threads that share this hall. These are all passes to its post.
+fn served_in<R: Threads + Wait + Sync, T: Turnstile + Sync>(
+    rt: &R,
+    alloc: Global,
+    scenario: &Scenario,
+    hall: &Hall<'_, T>,
+    mut own: Passes,
+    all: &[Stage<'_>],
+    count: usize,
+) -> Result<Vec<NodeCell>, CellFault>
+    requires few { length scenario.now.nodes ≤ MOST_RUN_NODES }
+    requires stages { map shown all.now ≡ stages_of scenario.now }
+    requires within { count ≤ length all.now }
+    requires last { last_budget (map shown (take count all.now)) ≤ end_budget (map shown (take count all.now)) }
+    requires nodes { hall.now.post.now.nodes ≡ ids scenario.now.nodes }
+    requires of { AreOf own hall.now.post.now }
+    requires fresh { own ≡ fresh_passes hall.now.post.now ALL_PARTS }
+    ensures { IfOk result (λ cells. IsServedTo scenario.now (map shown (take count all.now)) cells.items) }
+{
+    let _founder = scenario.founder();
+    let mut workers = employ(rt, alloc, scenario, hall.post, &mut own)?;
     run_stages(
         rt,
         alloc,
         scenario,
-        &hall,
+        hall,
         &mut own,
         all,
         count,
         &mut workers,
     )?;
-    finish(rt, alloc, &post, own, workers)
+    finish(rt, alloc, hall.post, own, workers)
 }
 
 fn ids_of(alloc: Global, nodes: &[NodeLine]) -> Result<Vec<Id>, OutOfMemory>
@@ -170,14 +196,29 @@ fn employ_one<R: Wait>(
     ensures own { OnOk result (own.new ≡ map after_split own.old) }
     ensures worker { IfOk result (λ worker. worker ≡ new_worker (map split_off own.old) node founder) }
 {
-    let mut cell = NodeCell::new(alloc, node, founder)?;
-    cell.equip(own.split(rt, alloc, post)?);
+    let passes = own.split(rt, alloc, post)?;
+    let cell = equipped(alloc, node, founder, passes)?;
     Ok(Worker {
         cell,
         left: 0,
         turns: 0,
         fault: None,
     })
+}
+
+/// The cell of a node to which nothing came yet, with these passes.
+fn equipped(
+    alloc: Global,
+    node: Id,
+    founder: bool,
+    passes: Passes,
+) -> Result<NodeCell, OutOfMemory>
+    requires { All IsUnused passes }
+    ensures { IfOk result (λ cell. cell ≡ record (empty_cell node founder) { carried = Some (just_given passes) }) }
+{
+    let mut cell = NodeCell::new(alloc, node, founder)?;
+    cell.equip(passes);
+    Ok(cell)
 }
 
 /// Runs the first stages, one after another.

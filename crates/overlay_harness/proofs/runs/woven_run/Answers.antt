@@ -1,24 +1,15 @@
-use Rattle.std.proofs.Common.{List, subst}
-use Rattle.weave_laws.specs.Cells.{History}
-use Rattle.wire_msg.specs.Words.{plain_envelope}
+use Rattle.std.proofs.lemmas.Result.{IfOk-weaker}
+use Rattle.weave_laws.specs.Woven.{IsWoven}
 use Rattle.weave.specs.Cells.{histories}
-use Rattle.weave.specs.Stray.{IsDueTo}
-use Rattle.weave.specs.declared.fault.WeaveFault.TheVariants as fault
-use Rattle.weave.proofs.Strays.{no_stray}
+use Rattle.overlay_harness.specs.Run.{IsRunOf}
 use Rattle.overlay_harness.proofs.Ending.{run_of}
 use Rattle.overlay_harness.proofs.Made.{own_nodes}
 use Rattle.overlay_harness.proofs.runs.woven_run.Goals as goal
 
-pub weave-requires : goal.weave-requires
-weave-requires c = own_nodes c.args.scenario.now c.args.cells.now c.founder-founder.ensures.rules c.requires.cells_are
+pub woven-requires-clause-apart : goal.woven-requires-clause-apart
+woven-requires-clause-apart c = own_nodes c.args.scenario.now c.args.cells.now c.founder-founder.ensures.rules c.requires.cells_are
 
-pub returns-in-Ok : goal.returns-in-Ok
-returns-in-Ok c =
-    run_of c.args.scenario.now c.args.cells.now c.in-Ok.steps c.founder-founder.ensures.rules c.requires c.cells_law.ensures c.in-Ok.ensures.woven
-
-pub unreachable-requires : goal.unreachable-requires
-unreachable-requires c =
-    let hs : List History = histories c.args.cells.now in
-    let first : IsDueTo hs (fault.Stray c.in-Err-Stray.field-0-0 c.in-Err-Stray.field-0-1 c.in-Err-Stray.field-0-2) =
-    subst (IsDueTo hs) c.in-Err-Stray.field-0-is c.in-Err-Stray.ensures.due in
-    no_stray hs c.requires.sent c.in-Err-Stray.field-0-0 c.in-Err-Stray.field-0-1 (plain_envelope c.in-Err-Stray.field-0-2) first.stray
+pub returns : goal.returns
+returns c =
+    IfOk-weaker c.woven.result (IsWoven (histories c.args.cells.now)) (IsRunOf c.args.scenario.now)
+    (λ r w. run_of c.args.scenario.now c.args.cells.now r c.founder-founder.ensures.rules c.requires c.cells_law.ensures w) c.woven.ensures
