@@ -154,6 +154,7 @@ fn unread_at(
     }
     let found = unread(alloc, cells, cell.me())?;
     let frame = frame_of(alloc, &found);
+    // One call. Left to the end, it would be a case for each kind of message.
     drop(found);
     frame
 }

@@ -11,7 +11,8 @@ use crate::{
 };
 use node_cell::{CellInput, NodeCell};
 use outside::{FreePass, Turnstile};
-use scenario_reader::read_scenario;
+use overlay_rules::Record;
+use scenario_reader::{Scenario, read_scenario};
 use schedule::make_scenario;
 use std::alloc::Global;
 use std::sync::atomic::{AtomicBool, Ordering};
@@ -135,19 +136,33 @@ fn is_found(note: &Note) -> bool {
     )
 }
 
+/// How many nodes joined.
+fn joined(steps: &Record) -> usize {
+    let notes = steps.entries.notes();
+    notes.iter().filter(|note| is_joined(note)).count()
+}
+
+/// How many files were stored.
+fn stored(steps: &Record) -> usize {
+    let notes = steps.entries.notes();
+    notes.iter().filter(|note| is_stored(note)).count()
+}
+
+/// How many nodes joined, and how many files were stored and found.
+fn answers(steps: &Record) -> [usize; 3] {
+    let notes = steps.entries.notes();
+    let found = notes.iter().filter(|note| is_found(note)).count();
+    [joined(steps), stored(steps), found]
+}
+
 /// By hand each message comes once, and none is left: eight commands, and each message.
 #[test]
 fn three_nodes_run_by_hand(rt: HostRuntime) -> Result<(), Fail> {
     let threaded = read_scenario(rt.alloc(), THREADED)?;
     let steps = run_by_hand(rt.alloc(), &threaded)?;
-    let notes = steps.entries.notes();
-    assert_eq!(rt; notes.iter().filter(|note| is_joined(note)).count(), 2);
-    assert_eq!(rt; notes.iter().filter(|note| is_stored(note)).count(), 3);
-    assert_eq!(rt; notes.iter().filter(|note| is_found(note)).count(), 3);
-    assert_eq!(rt;
-        steps.entries.len(),
-        steps.entries.sent().len().saturating_add(8)
-    );
+    assert_eq!(rt; answers(&steps).as_slice(), [2, 3, 3].as_slice());
+    let sent = steps.entries.sent().len();
+    assert_eq!(rt; steps.entries.len(), sent.saturating_add(8));
     Ok(())
 }
 
@@ -156,10 +171,7 @@ fn three_nodes_run_by_hand(rt: HostRuntime) -> Result<(), Fail> {
 fn three_nodes_run_by_threads(rt: HostRuntime) -> Result<(), Fail> {
     let threaded = read_scenario(rt.alloc(), THREADED)?;
     let steps = run(&rt, rt.alloc(), &threaded, &FreePass)?;
-    let notes = steps.entries.notes();
-    assert_eq!(rt; notes.iter().filter(|note| is_joined(note)).count(), 2);
-    assert_eq!(rt; notes.iter().filter(|note| is_stored(note)).count(), 3);
-    assert_eq!(rt; notes.iter().filter(|note| is_found(note)).count(), 3);
+    assert_eq!(rt; answers(&steps).as_slice(), [2, 3, 3].as_slice());
     let sent = steps.entries.sent().len();
     assert_eq!(rt;
         steps.entries.len(),
@@ -190,20 +202,28 @@ fn is_found_whole(note: &Note) -> bool {
     }
 }
 
+/// Of a run by threads, how many nodes joined, how many joins were denied, how many files were stored and found whole, and how many
+/// entries there are past one for each message.
+fn crowded_run(rt: &HostRuntime, crowded: &Scenario) -> Result<[usize; 5], Fail> {
+    let steps = run(rt, rt.alloc(), crowded, &FreePass)?;
+    let notes = steps.entries.notes();
+    let denied = notes.iter().filter(|note| is_denied(note)).count();
+    let whole = notes.iter().filter(|note| is_found_whole(note)).count();
+    let past = steps
+        .entries
+        .len()
+        .saturating_sub(steps.entries.sent().len());
+    Ok([joined(&steps), denied, stored(&steps), whole, past])
+}
+
 /// Which joins are denied differs from run to run, and which node holds a file. Each node joins, by its first command or by its
 /// second, and its other one is denied; so all are ready. No message is left: there are as many entries as commands and messages.
 #[test]
 fn each_of_twenty_runs_answers_right(rt: HostRuntime) -> Result<(), Fail> {
     let crowded = read_scenario(rt.alloc(), CROWDED)?;
     for _ in 0..20 {
-        let steps = run(&rt, rt.alloc(), &crowded, &FreePass)?;
-        let notes = steps.entries.notes();
-        assert_eq!(rt; notes.iter().filter(|note| is_joined(note)).count(), 15);
-        assert_eq!(rt; notes.iter().filter(|note| is_denied(note)).count(), 15);
-        assert_eq!(rt; notes.iter().filter(|note| is_stored(note)).count(), 3);
-        assert_eq!(rt; notes.iter().filter(|note| is_found_whole(note)).count(), 3);
-        let sent = steps.entries.sent().len();
-        assert_eq!(rt; steps.entries.len(), sent.saturating_add(36));
+        let counts = crowded_run(&rt, &crowded)?;
+        assert_eq!(rt; counts.as_slice(), [15, 15, 3, 3, 36].as_slice());
     }
     Ok(())
 }

@@ -207,12 +207,7 @@ fn employ_one<R: Wait>(
 }
 
 /// The cell of a node to which nothing came yet, with these passes.
-fn equipped(
-    alloc: Global,
-    node: Id,
-    founder: bool,
-    passes: Passes,
-) -> Result<NodeCell, OutOfMemory>
+fn equipped(alloc: Global, node: Id, founder: bool, passes: Passes) -> Result<NodeCell, OutOfMemory>
     requires { All IsUnused passes }
     ensures { IfOk result (λ cell. cell ≡ record (empty_cell node founder) { carried = Some (just_given passes) }) }
 {

@@ -1,5 +1,5 @@
 use Rattle.std.proofs.Common.{◌≡◌, ◌≤◌, ◌+◌, ◌-◌, ◌∙◌, ◌++◌, ◌∷◌, ◌==◌, [], List, All, length, map, take, sym, subst, ap, arith}
-use Rattle.std.proofs.lemmas.List.{map_more}
+use Rattle.std.proofs.lemmas.List.{map_more, take_all}
 use Rattle.node_mailbox.specs.Pass.{PassView, after_split, split_off}
 use Rattle.node_mailbox.specs.Post.{PostView}
 use Rattle.node_mailbox.specs.declared.limits.TheConstants.{ALL_PARTS}
@@ -41,3 +41,14 @@ loop-node-preserved g c =
           ∙ ap (λ (w : Worker). so_far ++ w ∷ []) made
           ∙ sym next;
     }
+
+pub returns-clause-own : goal.returns-clause-own
+returns-clause-own g c =
+    c.loop-node.invariant.own
+    ∙ ap (fresh_passes c.args.post.now) (let long = ap length c.nodes-nodes.ensures.value in omega arith)
+
+pub returns-clause-workers : goal.returns-clause-workers
+returns-clause-workers g c =
+    c.loop-node.invariant.workers
+    ∙ ap (new_workers c.args.post.now c.args.scenario.now.founder)
+    (take_all c.loop-node.node-index c.nodes-nodes.result.now (omega arith) ∙ c.nodes-nodes.ensures.value)
