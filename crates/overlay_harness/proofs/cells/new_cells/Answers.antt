@@ -1,4 +1,4 @@
-use Rattle.std.proofs.Common.{◌≡◌, ◌∙◌, ◌++◌, ◌∷◌, ◌==◌, [], List, take, sym, ap, arith}
+use Rattle.std.proofs.Common.{◌∙◌, ◌++◌, ◌∷◌, ◌==◌, [], List, take, sym, ap, arith}
 use Rattle.std.proofs.lemmas.List.{map_more, take_all}
 use Rattle.ring_math.specs.Names.{Id}
 use Rattle.scenario_reader.specs.declared.node.NodeLine.{NodeLine}
