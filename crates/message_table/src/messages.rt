@@ -1,14 +1,15 @@
 //! Messages in words.
 
-ghost use Rattle.std.specs.Prelude.{◌≡◌, ◌++◌, codes, OnOk};
+ghost use Rattle.std.specs.Prelude.{◌≡◌, ◌++◌, codes, decimal, OnOk};
 ghost use Rattle.wire_msg.specs.Words.{plain};
+ghost use Rattle.wire_msg.specs.Words as words;
 ghost use Rattle.message_table.specs.Messages.{answered_text, asker_text, attempt_text, between_text, content_text, file_text, hops_text, lists_text, members_text, message_text, refusal_text};
 
 use crate::labels::Labels;
 use delivery_report::{put_bytes, put_reply, put_why};
-use ring_math::{FileId, Id, OutOfMemory};
+use ring_math::{Bytes, FileId, FileIds, Id, Ids, OutOfMemory};
 use text_writer::Text;
-use wire_msg::{Message, Reply, Why};
+use wire_msg::{Copies, Message, Reply, Why};
 
 /// The kind of a message and its fields.
 pub(crate) fn put_message(
@@ -24,11 +25,7 @@ pub(crate) fn put_message(
             key,
             number,
             hops,
-        } => {
-            asker(text, labels, b"Lookup", *origin, *number)?;
-            text.id_after(b" key ", *key)?;
-            put_hops(text, *hops)
-        }
+        } => lookup(text, labels, *origin, *key, *number, *hops),
         Message::LookupReply { number, reply } => {
             answered(text, labels, b"LookupReply", *number, reply)
         }
@@ -40,11 +37,8 @@ pub(crate) fn put_message(
             origin,
             bytes,
         } => {
-            asker(text, labels, b"Insert", *origin, *number)?;
-            labels.put_file(text, b" file ", file)?;
-            text.number_after(b" copies ", u64::from(copies.get()))?;
-            content(text, bytes.as_slice())?;
-            put_hops(text, *hops)
+            of_file(text, labels, b"Insert", *origin, *number, file)?;
+            to_store(text, *copies, bytes, *hops)
         }
         Message::InsertReply { number, reply } => {
             answered(text, labels, b"InsertReply", *number, reply)
@@ -54,11 +48,7 @@ pub(crate) fn put_message(
             number,
             hops,
             file,
-        } => {
-            asker(text, labels, b"Fetch", *origin, *number)?;
-            labels.put_file(text, b" file ", file)?;
-            put_hops(text, *hops)
-        }
+        } => passed_on(text, labels, b"Fetch", *origin, *number, *hops, file),
         Message::FetchReply { number, reply } => {
             answered(text, labels, b"FetchReply", *number, reply)
         }
@@ -66,20 +56,16 @@ pub(crate) fn put_message(
             joiner,
             attempt,
             hops,
-        } => {
-            labels.put_node(text, b"JoinRequest of ", *joiner)?;
-            put_attempt(text, *attempt)?;
-            put_hops(text, *hops)
-        }
+        } => join_request(text, labels, *joiner, *attempt, *hops),
         Message::JoinReply { attempt, members } => {
-            put_members(text, labels, b"JoinReply", *attempt, members.as_slice())
+            put_members(text, labels, b"JoinReply", *attempt, members)
         }
         Message::JoinRefuse { attempt, why } => {
             refusal(text, labels, b"JoinRefuse", *attempt, why)
         }
         Message::Probe { attempt } => alone(text, b"Probe", *attempt),
         Message::ProbeReply { attempt, members } => {
-            put_members(text, labels, b"ProbeReply", *attempt, members.as_slice())
+            put_members(text, labels, b"ProbeReply", *attempt, members)
         }
         Message::LeaseRequest {
             attempt,
@@ -90,16 +76,9 @@ pub(crate) fn put_message(
             attempt,
             manifest,
             tombs,
-        } => {
-            alone(text, b"Grant", *attempt)?;
-            lists(text, labels, manifest.as_slice(), tombs.as_slice())
-        }
+        } => grant(text, labels, *attempt, manifest, tombs),
         Message::Deny { attempt, why } => refusal(text, labels, b"Deny", *attempt, why),
-        Message::Handover { file, bytes } => {
-            text.put(b"Handover")?;
-            labels.put_file(text, b" file ", file)?;
-            content(text, bytes.as_slice())
-        }
+        Message::Handover { file, bytes } => handover(text, labels, file, bytes),
         Message::Release { attempt } => alone(text, b"Release", *attempt),
         Message::Confirm { attempt } => alone(text, b"Confirm", *attempt),
         Message::Announce => text.put(b"Announce"),
@@ -108,29 +87,18 @@ pub(crate) fn put_message(
             number,
             origin,
             bytes,
-        } => {
-            asker(text, labels, b"Replicate", *origin, *number)?;
-            labels.put_file(text, b" file ", file)?;
-            content(text, bytes.as_slice())
-        }
+        } => replicate(text, labels, *origin, *number, file, bytes),
         Message::ReplicaAck {
             origin,
             number,
             file,
-        } => {
-            asker(text, labels, b"ReplicaAck", *origin, *number)?;
-            labels.put_file(text, b" file ", file)
-        }
+        } => of_file(text, labels, b"ReplicaAck", *origin, *number, file),
         Message::Reclaim {
             origin,
             number,
             hops,
             file,
-        } => {
-            asker(text, labels, b"Reclaim", *origin, *number)?;
-            labels.put_file(text, b" file ", file)?;
-            put_hops(text, *hops)
-        }
+        } => passed_on(text, labels, b"Reclaim", *origin, *number, *hops, file),
         Message::ReclaimReply { number, reply } => {
             answered(text, labels, b"ReclaimReply", *number, reply)
         }
@@ -150,6 +118,106 @@ pub(crate) fn asker(
     text.put(kind)?;
     labels.put_node(text, b" of ", origin)?;
     text.number_after(b" ", number)
+}
+
+/// A lookup of a key.
+fn lookup(
+    text: &mut Text,
+    labels: &Labels,
+    origin: Id,
+    key: Id,
+    number: u64,
+    hops: u16,
+) -> Result<(), OutOfMemory>
+    ensures { OnOk result (text.new ≡ text.old ++ message_text labels.now.nodes labels.now.files (words.Lookup origin number key hops)) }
+{
+    asker(text, labels, b"Lookup", origin, number)?;
+    text.id_after(b" key ", key)?;
+    put_hops(text, hops)
+}
+
+/// A kind, whose command it is of, and a file.
+fn of_file(
+    text: &mut Text,
+    labels: &Labels,
+    kind: &[u8],
+    origin: Id,
+    number: u64,
+    file: &FileId,
+) -> Result<(), OutOfMemory>
+    ensures { OnOk result (text.new ≡ text.old ++ (kind.now ++ asker_text labels.now.nodes origin number ++ file_text labels.now.files file.now)) }
+{
+    asker(text, labels, kind, origin, number)?;
+    labels.put_file(text, b" file ", file)
+}
+
+/// The same of a message that is passed on from node to node.
+fn passed_on(
+    text: &mut Text,
+    labels: &Labels,
+    kind: &[u8],
+    origin: Id,
+    number: u64,
+    hops: u16,
+    file: &FileId,
+) -> Result<(), OutOfMemory>
+    ensures { OnOk result (text.new ≡ text.old ++ (kind.now ++ asker_text labels.now.nodes origin number ++ file_text labels.now.files file.now ++ hops_text hops)) }
+{
+    of_file(text, labels, kind, origin, number, file)?;
+    put_hops(text, hops)
+}
+
+/// How many copies of which bytes an insert is to store, and its hops.
+fn to_store(text: &mut Text, copies: Copies, bytes: &Bytes, hops: u16) -> Result<(), OutOfMemory>
+    ensures { OnOk result (text.new ≡ text.old ++ (codes " copies " ++ decimal copies ++ content_text bytes.now ++ hops_text hops)) }
+{
+    text.number_after(b" copies ", u64::from(copies.get()))?;
+    content(text, bytes.as_slice())?;
+    put_hops(text, hops)
+}
+
+/// A copy of a file.
+fn replicate(
+    text: &mut Text,
+    labels: &Labels,
+    origin: Id,
+    number: u64,
+    file: &FileId,
+    bytes: &Bytes,
+) -> Result<(), OutOfMemory>
+    ensures { OnOk result (text.new ≡ text.old ++ message_text labels.now.nodes labels.now.files (words.Replicate origin number file.now bytes.now)) }
+{
+    of_file(text, labels, b"Replicate", origin, number, file)?;
+    content(text, bytes.as_slice())
+}
+
+/// A file that is handed over.
+fn handover(
+    text: &mut Text,
+    labels: &Labels,
+    file: &FileId,
+    bytes: &Bytes,
+) -> Result<(), OutOfMemory>
+    ensures { OnOk result (text.new ≡ text.old ++ message_text labels.now.nodes labels.now.files (words.Handover file.now bytes.now)) }
+{
+    text.put(b"Handover")?;
+    labels.put_file(text, b" file ", file)?;
+    content(text, bytes.as_slice())
+}
+
+/// The request of a joiner.
+fn join_request(
+    text: &mut Text,
+    labels: &Labels,
+    joiner: Id,
+    attempt: u32,
+    hops: u16,
+) -> Result<(), OutOfMemory>
+    ensures { OnOk result (text.new ≡ text.old ++ message_text labels.now.nodes labels.now.files (words.JoinRequest joiner attempt hops)) }
+{
+    labels.put_node(text, b"JoinRequest of ", joiner)?;
+    put_attempt(text, attempt)?;
+    put_hops(text, hops)
 }
 
 /// A kind, and the answer to a command.
@@ -182,13 +250,13 @@ fn put_members(
     labels: &Labels,
     kind: &[u8],
     attempt: u32,
-    members: &[Id],
+    members: &Ids,
 ) -> Result<(), OutOfMemory>
     ensures { OnOk result (text.new ≡ text.old ++ (kind.now ++ members_text labels.now.nodes attempt members.now)) }
 {
     alone(text, kind, attempt)?;
     text.put(b" members")?;
-    labels.names().write_all(text, members)
+    labels.names().write_all(text, members.as_slice())
 }
 
 /// A kind, an attempt, and why it was refused.
@@ -220,19 +288,32 @@ fn between(
     labels.put_both(text, b" between ", left, right)
 }
 
-/// The lists of a lease.
+/// A lease with its lists.
+fn grant(
+    text: &mut Text,
+    labels: &Labels,
+    attempt: u32,
+    manifest: &FileIds,
+    tombs: &FileIds,
+) -> Result<(), OutOfMemory>
+    ensures { OnOk result (text.new ≡ text.old ++ message_text labels.now.nodes labels.now.files (words.Grant attempt manifest.now tombs.now)) }
+{
+    alone(text, b"Grant", attempt)?;
+    lists(text, labels, manifest, tombs)
+}
+
 fn lists(
     text: &mut Text,
     labels: &Labels,
-    manifest: &[FileId],
-    tombs: &[FileId],
+    manifest: &FileIds,
+    tombs: &FileIds,
 ) -> Result<(), OutOfMemory>
     ensures { OnOk result (text.new ≡ text.old ++ lists_text labels.now.files manifest.now tombs.now) }
 {
     text.put(b" manifest")?;
-    labels.put_files(text, manifest)?;
+    labels.put_files(text, manifest.as_slice())?;
     text.put(b" tombs")?;
-    labels.put_files(text, tombs)
+    labels.put_files(text, tombs.as_slice())
 }
 
 fn put_attempt(text: &mut Text, attempt: u32) -> Result<(), OutOfMemory>

@@ -1,30 +1,40 @@
-use Rattle.std.proofs.Common.{◌++◌, List, ℕ, rules, ap, append_assoc}
-use Rattle.std.specs.Prelude.{codes}
-use Rattle.std.proofs.lemmas.Result.{IfOk-equal}
-use Rattle.message_table.specs.Messages.{content_text, file_text}
-use Rattle.message_table.proofs.Pieces.{three_written}
 use Rattle.message_table.proofs.messages.put_message.Goals as goal
 
-pub returns-in_ok-id_after-in-Lookup : goal.returns-in_ok-id_after-in-Lookup
-returns-in_ok-id_after-in-Lookup c = rw c.in-Lookup.is (search (rules, IfOk-equal, append_assoc))
-
-pub returns-in-LeaseRequest : goal.returns-in-LeaseRequest
-returns-in-LeaseRequest c = rw c.in-LeaseRequest.is c.between.ensures
-
-pub returns-in_ok-put_file-in-Handover : goal.returns-in_ok-put_file-in-Handover
-returns-in_ok-put_file-in-Handover c =
-    let file = file_text c.args.labels.now.files c.in-Handover.file in
-    rw c.in-Handover.is
-    (three_written c.content-in-Handover.result c.args.text.now _ _ _ (codes "Handover") file (content_text c.as_slice-in-Handover.result.now)
-    (codes "Handover" ++ (file ++ content_text c.in-Handover.bytes)) c.in_ok-put-in-Handover.ensures c.in_ok-put_file-in-Handover.ensures
-    (ap (λ (bytes : List ℕ). codes "Handover" ++ (file ++ content_text bytes)) c.as_slice-in-Handover.ensures.value)
-    c.content-in-Handover.ensures)
-
-pub returns-in_ok-asker-in-ReplicaAck : goal.returns-in_ok-asker-in-ReplicaAck
-returns-in_ok-asker-in-ReplicaAck c = rw c.in-ReplicaAck.is (search (rules, IfOk-equal, append_assoc))
+pub returns-in-Lookup : goal.returns-in-Lookup
+returns-in-Lookup c = rw c.in-Lookup.is c.lookup.ensures
 
 pub returns-in-LookupReply : goal.returns-in-LookupReply
 returns-in-LookupReply c = rw c.in-LookupReply.is c.answered.ensures
 
 pub returns-in-InsertReply : goal.returns-in-InsertReply
 returns-in-InsertReply c = rw c.in-InsertReply.is c.answered-in-InsertReply.ensures
+
+pub returns-in-Fetch : goal.returns-in-Fetch
+returns-in-Fetch c = rw c.in-Fetch.is c.passed_on.ensures
+
+pub returns-in-FetchReply : goal.returns-in-FetchReply
+returns-in-FetchReply c = rw c.in-FetchReply.is c.answered-in-FetchReply.ensures
+
+pub returns-in-JoinRequest : goal.returns-in-JoinRequest
+returns-in-JoinRequest c = rw c.in-JoinRequest.is c.join_request.ensures
+
+pub returns-in-LeaseRequest : goal.returns-in-LeaseRequest
+returns-in-LeaseRequest c = rw c.in-LeaseRequest.is c.between.ensures
+
+pub returns-in-Grant : goal.returns-in-Grant
+returns-in-Grant c = rw c.in-Grant.is c.grant.ensures
+
+pub returns-in-Handover : goal.returns-in-Handover
+returns-in-Handover c = rw c.in-Handover.is c.handover.ensures
+
+pub returns-in-Replicate : goal.returns-in-Replicate
+returns-in-Replicate c = rw c.in-Replicate.is c.replicate.ensures
+
+pub returns-in-ReplicaAck : goal.returns-in-ReplicaAck
+returns-in-ReplicaAck c = rw c.in-ReplicaAck.is c.of_file-in-ReplicaAck.ensures
+
+pub returns-in-Reclaim : goal.returns-in-Reclaim
+returns-in-Reclaim c = rw c.in-Reclaim.is c.passed_on-in-Reclaim.ensures
+
+pub returns-in-ReclaimReply : goal.returns-in-ReclaimReply
+returns-in-ReclaimReply c = rw c.in-ReclaimReply.is c.answered-in-ReclaimReply.ensures
