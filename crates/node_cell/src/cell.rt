@@ -14,9 +14,9 @@ ghost use Rattle.weave_laws.specs.Numbers.{IsNumberedAfter, NumbersRise};
 use crate::carried::Carried;
 use crate::entry::{CellEntry, CellInput};
 use crate::fault::CellFault;
-use crate::frames::{Addressed, append};
+use crate::frames::Addressed;
 use crate::live::node_at_start;
-use crate::plan::{Planned, plan};
+use crate::plan::{commit, make_room, plan};
 use crate::reading::read;
 use crate::stamps::stamp_after;
 use node_core::Node;
@@ -140,16 +140,9 @@ impl NodeCell {
         ensures in_time { OnOk result (greater_stamp self.old (plain_input_of input) < LAST_STAMP) }
     {
         let stamp = self.stamp_after(&input)?;
-        let Planned {
-            change,
-            entry,
-            frames,
-        } = plan(&mut self.node, alloc, input, stamp)?;
-        self.history.reserve(1)?;
-        self.unsent.reserve(frames.len())?;
-        self.node.commit(change);
-        self.history.push_reserved(entry);
-        append(&mut self.unsent, frames);
+        let planned = plan(&mut self.node, alloc, input, stamp)?;
+        make_room(&mut self.history, &mut self.unsent, &planned)?;
+        commit(&mut self.node, &mut self.history, &mut self.unsent, planned);
         self.stamp = stamp;
         Ok(())
     }

@@ -20,8 +20,31 @@ pub struct Addressed {
     pub frame: Frame,
 }
 
+/// What a step sends: its messages in envelopes, and the frame of each of these.
+#[derive(Drop)]
+pub(crate) struct Dispatch {
+    pub(crate) sent: Envelopes,
+    pub(crate) frames: Vec<Addressed>,
+}
+
+/// Each message in an envelope from this sender, with this stamp, and the frames of these.
+pub(crate) fn dispatch_of(
+    alloc: Global,
+    stamp: u64,
+    sender: Id,
+    sends: Sends,
+) -> Result<Dispatch, OutOfMemory>
+    ensures sent { IfOk result (λ d. d.sent ≡ map (enveloped stamp sender) sends) }
+    ensures frames { IfOk result (λ d. d.frames.items ≡ map frame_of (map (enveloped stamp sender) sends)) }
+    ensures spelled { IfOk result (λ d. All HasFrame (map (enveloped stamp sender) sends)) }
+{
+    let sent = envelopes_of(alloc, stamp, sender, sends)?;
+    let frames = frames_of(alloc, sent.as_slice())?;
+    Ok(Dispatch { sent, frames })
+}
+
 /// Each message in an envelope from this sender, with this stamp. The messages are moved, and not copied.
-pub(crate) fn envelopes_of(
+fn envelopes_of(
     alloc: Global,
     stamp: u64,
     sender: Id,
@@ -54,7 +77,7 @@ fn each_in_envelope(
 }
 
 /// The frame of each envelope, in this order.
-pub(crate) fn frames_of(
+fn frames_of(
     alloc: Global,
     envelopes: &[Envelope],
 ) -> Result<Vec<Addressed>, OutOfMemory>

@@ -4,7 +4,10 @@ ghost use Rattle.std.specs.Prelude.{◌≡◌, ◌<◌, ◌≤◌, IfOk, IfErr, 
 ghost use Rattle.ring_math.specs.Names.{Id as PlainId, Stamp};
 ghost use Rattle.overlay_rules.specs.State.{State, start};
 ghost use Rattle.weave_laws.specs.Cells as plain;
+ghost use Rattle.node_parts.specs.Change.{changed};
+ghost use Rattle.node_parts.specs.Fits.{Fits};
 ghost use Rattle.node_parts.specs.Seen.{Stands};
+ghost use Rattle.node_parts.specs.Sound.{IsSound};
 ghost use Rattle.node_cell.specs.Entries.{plain_input_of};
 ghost use Rattle.node_cell.specs.Faults.{IsDueAt};
 ghost use Rattle.node_cell.specs.Live.{IsAt, IsDueToNextBytes, TookNext, TookNextBytes};
@@ -101,15 +104,27 @@ impl LiveNode {
         ensures risen { OnOk result (self.old.stamp < self.new.stamp) }
     {
         let stamp = stamp_after(self.stamp, &input)?;
-        let Planned {
-            change,
-            entry,
-            frames,
-        } = plan(&mut self.node, alloc, input, stamp)?;
-        self.node.commit(change);
+        let planned = plan(&mut self.node, alloc, input, stamp)?;
         self.stamp = stamp;
-        Ok(Taken { entry, frames })
+        Ok(made(&mut self.node, planned))
     }
+}
+
+/// What was planned comes about.
+fn made(node: &mut Node, planned: Planned) -> Taken
+    requires { Fits node.old planned.change }
+    ensures me { node.new.me ≡ node.old.me }
+    ensures stands { (s t : State) → Stands node.old s → changed planned.change s ≡ t → IsSound t → Stands node.new t }
+    ensures entry { result.entry ≡ planned.entry }
+    ensures frames { result.frames ≡ planned.frames }
+{
+    let Planned {
+        change,
+        entry,
+        frames,
+    } = planned;
+    node.commit(change);
+    Taken { entry, frames }
 }
 
 /// A node to which nothing came yet.

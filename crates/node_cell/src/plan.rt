@@ -1,17 +1,24 @@
 //! What taking in an input will change, and the entry and the frames that go with it.
 
-ghost use Rattle.std.specs.Prelude.{◌≡◌, IfOk};
+ghost use Rattle.std.specs.Prelude.{◌≡◌, ◌<◌, ◌≤◌, ◌+◌, ◌++◌, ◌∷◌, [], IfOk, OnOk, vec_len, vec_capacity};
+ghost use Rattle.std.specs.VecDeque.{deque_len, deque_capacity};
 ghost use Rattle.overlay_rules.specs.State.{State};
+ghost use Rattle.overlay_rules.specs.Step.{step};
+ghost use Rattle.weave_laws.specs.Cells.{input_of};
+ghost use Rattle.node_parts.specs.Change.{changed};
 ghost use Rattle.node_parts.specs.Fits.{Fits};
+ghost use Rattle.node_parts.specs.Plans.{Plans};
 ghost use Rattle.node_parts.specs.Seen.{Stands};
+ghost use Rattle.node_parts.specs.Sound.{IsSound};
 ghost use Rattle.node_cell.specs.Entries.{plain_input_of};
 ghost use Rattle.node_cell.specs.Kept.{IsPlanned};
 
 use crate::entry::{CellEntry, CellInput};
-use crate::frames::{Addressed, envelopes_of, frames_of};
+use crate::frames::{Addressed, Dispatch, append, dispatch_of};
 use node_core::{Change, Node, Prepared};
-use ring_math::OutOfMemory;
+use ring_math::{Id, OutOfMemory};
 use std::alloc::Global;
+use std::collections::VecDeque;
 
 /// A change of a node that has room, the entry of the step that makes it, and the frames of what that step sends.
 #[derive(Drop)]
@@ -33,13 +40,27 @@ pub(crate) fn plan(
     ensures fits { IfOk result (λ r. Fits node.new r.change) }
     ensures planned { (s : State) → Stands node.old s → IfOk result (IsPlanned node.old.me s stamp (plain_input_of input)) }
 {
+    let prepared = node.prepare(alloc, &input.as_input())?;
+    with_frames(alloc, node.id(), stamp, input, prepared)
+}
+
+/// What was prepared for an input of this node, with the entry of its step and the frames.
+fn with_frames(
+    alloc: Global,
+    me: Id,
+    stamp: u64,
+    input: CellInput,
+    prepared: Prepared,
+) -> Result<Planned, OutOfMemory>
+    ensures change { IfOk result (λ r. r.change ≡ prepared.change) }
+    ensures planned { (s : State) → Plans s prepared (step s (input_of (plain_input_of input))) → IsSound (step s (input_of (plain_input_of input))).state → IfOk result (IsPlanned me s stamp (plain_input_of input)) }
+{
     let Prepared {
         messages,
         notes,
         change,
-    } = node.prepare(alloc, &input.as_input())?;
-    let sent = envelopes_of(alloc, stamp, node.id(), messages)?;
-    let frames = frames_of(alloc, sent.as_slice())?;
+    } = prepared;
+    let Dispatch { sent, frames } = dispatch_of(alloc, stamp, me, messages)?;
     Ok(Planned {
         change,
         entry: CellEntry {
@@ -50,4 +71,45 @@ pub(crate) fn plan(
         },
         frames,
     })
+}
+
+/// Room for what was planned, in the lists of a cell.
+pub(crate) fn make_room(
+    history: &mut Vec<CellEntry>,
+    unsent: &mut VecDeque<Addressed>,
+    planned: &Planned,
+) -> Result<(), OutOfMemory>
+    ensures history { history.new.items ≡ history.old.items }
+    ensures unsent { unsent.new.items ≡ unsent.old.items }
+    ensures entry { OnOk result (vec_len history.new < vec_capacity history.new) }
+    ensures frames { OnOk result (deque_len unsent.new + vec_len planned.now.frames ≤ deque_capacity unsent.new) }
+{
+    history.reserve(1)?;
+    unsent.reserve(planned.frames.len())?;
+    Ok(())
+}
+
+/// What was planned comes about, in room that was taken.
+pub(crate) fn commit(
+    node: &mut Node,
+    history: &mut Vec<CellEntry>,
+    unsent: &mut VecDeque<Addressed>,
+    planned: Planned,
+)
+    requires fits { Fits node.old planned.change }
+    requires entry { vec_len history.old < vec_capacity history.old }
+    requires frames { deque_len unsent.old + vec_len planned.frames ≤ deque_capacity unsent.old }
+    ensures me { node.new.me ≡ node.old.me }
+    ensures stands { (s t : State) → Stands node.old s → changed planned.change s ≡ t → IsSound t → Stands node.new t }
+    ensures history { history.new.items ≡ history.old.items ++ planned.entry ∷ [] }
+    ensures unsent { unsent.new.items ≡ unsent.old.items ++ planned.frames.items }
+{
+    let Planned {
+        change,
+        entry,
+        frames,
+    } = planned;
+    node.commit(change);
+    history.push_reserved(entry);
+    append(unsent, frames);
 }

@@ -16,37 +16,37 @@ kept c = subst (λ (q : Cell). IsCell c.self.inside.node c.self.inside.stamp q) 
 
 -- what was planned, as of the cell's own state and stamp
 planned : (c : goal.After-self-1) → let i : CellInput = plain_input_of c.args.input in let r : Cell = c.args.self.now in
-    IsPlanned r.node (state_of r) (entry_next r i).stamp i c.in_ok-change.field-0
+    IsPlanned r.node (state_of r) (entry_next r i).stamp i c.in_ok-planned.planned
 planned c =
     let r : Cell = c.args.self.now in
     let i : CellInput = plain_input_of c.args.input in
-    subst (λ (n : ℕ). IsPlanned r.node (state_of r) n i c.in_ok-change.field-0) c.in_ok-stamp.ensures.ok
-    (subst (λ (x : ℕ). IsPlanned x (state_of r) c.in_ok-stamp.stamp i c.in_ok-change.field-0) (ap (λ (q : Cell). q.node) c.self.view_is)
-    (c.in_ok-change.ensures.planned (state_of r) (kept c).stands))
+    subst (λ (n : ℕ). IsPlanned r.node (state_of r) n i c.in_ok-planned.planned) c.in_ok-stamp.ensures.ok
+    (subst (λ (x : ℕ). IsPlanned x (state_of r) c.in_ok-stamp.stamp i c.in_ok-planned.planned) (ap (λ (q : Cell). q.node) c.self.view_is)
+    (c.in_ok-planned.ensures.planned (state_of r) (kept c).stands))
 
-longer : (c : goal.After-self-1) → plain_history c.push_reserved.new.self.items ≡ (with_input c.args.self.now (plain_input_of c.args.input)).history
+longer : (c : goal.After-self-1) → plain_history c.commit.new.history.items ≡ (with_input c.args.self.now (plain_input_of c.args.input)).history
 longer c =
     let r : Cell = c.args.self.now in
-    let entry : CodeEntry = c.in_ok-change.field-0.entry in
-    ap plain_history (c.push_reserved.ensures.items ∙ ap (λ (es : List CodeEntry). es ++ entry ∷ []) c.in_ok-reserve.ensures.items)
+    let entry : CodeEntry = c.in_ok-planned.planned.entry in
+    ap plain_history (c.commit.ensures.history ∙ ap (λ (es : List CodeEntry). es ++ entry ∷ []) c.make_room.ensures.history)
     ∙ map-append plain_entry c.self.inside.history.items (entry ∷ [])
     ∙ ap (λ (es : List CellEntry). es ++ plain_entry entry ∷ []) (ap (λ (q : Cell). q.history) c.self.view_is)
     ∙ ap (λ (e : CellEntry). r.history ++ e ∷ []) (planned c).entry
 
-more_frames : (c : goal.After-self-1) → c.append.new.unsent.items ≡ (with_input c.args.self.now (plain_input_of c.args.input)).unsent
+more_frames : (c : goal.After-self-1) → c.commit.new.unsent.items ≡ (with_input c.args.self.now (plain_input_of c.args.input)).unsent
 more_frames c =
     let r : Cell = c.args.self.now in
-    let frames : List Addressed = c.in_ok-change.field-0.frames.items in
-    c.append.ensures
-    ∙ ap (λ (us : List Addressed). us ++ frames) (c.in_ok-reserve-2.ensures.items ∙ ap (λ (q : Cell). q.unsent) c.self.view_is)
+    let frames : List Addressed = c.in_ok-planned.planned.frames.items in
+    c.commit.ensures.unsent
+    ∙ ap (λ (us : List Addressed). us ++ frames) (c.make_room.ensures.unsent ∙ ap (λ (q : Cell). q.unsent) c.self.view_is)
     ∙ ap (λ (fs : List Addressed). r.unsent ++ fs) (planned c).frames
 
 same : (c : goal.After-self-1) →
-    cell_seen c.commit.new.self c.self.inside.is_founder c.push_reserved.new.self.items c.append.new.unsent.items c.self.inside.carried
+    cell_seen c.commit.new.node c.self.inside.is_founder c.commit.new.history.items c.commit.new.unsent.items c.self.inside.carried
     ≡ with_input c.args.self.now (plain_input_of c.args.input)
 same c =
-    let history : List CellEntry = plain_history c.push_reserved.new.self.items in
-    let unsent : List Addressed = c.append.new.unsent.items in
+    let history : List CellEntry = plain_history c.commit.new.history.items in
+    let unsent : List Addressed = c.commit.new.unsent.items in
     ap (λ (x : ℕ). record { node = x; is_founder = c.self.inside.is_founder; history = history; unsent = unsent; carried = c.self.inside.carried })
     (c.commit.ensures.me ∙ c.plan.ensures.me)
     ∙ ap (λ (q : Cell). record q { history = history; unsent = unsent }) c.self.view_is
@@ -58,7 +58,7 @@ same c =
 
 -- the node stands for the state after the step
 stands_after : (c : goal.After-self-1) → let r : Cell = c.args.self.now in
-    Stands c.commit.new.self (stepped (state_of r) (entry_next r (plain_input_of c.args.input)))
+    Stands c.commit.new.node (stepped (state_of r) (entry_next r (plain_input_of c.args.input)))
 stands_after c =
     let r : Cell = c.args.self.now in
     c.commit.ensures.stands (state_of r) (stepped (state_of r) (entry_next r (plain_input_of c.args.input)))
@@ -68,9 +68,9 @@ pub invariant_of-self-2 : goal.invariant_of-self-2
 invariant_of-self-2 c =
     let r : Cell = c.args.self.now in
     let i : CellInput = plain_input_of c.args.input in
-    subst (λ (q : Cell). IsCell c.commit.new.self c.in_ok-stamp.stamp q) (sym (same c))
-    (subst (λ (n : ℕ). IsCell c.commit.new.self n (with_input r i)) (sym c.in_ok-stamp.ensures.ok)
-    (cell_grows c.self.inside.node c.commit.new.self c.self.inside.stamp r i (kept c) c.requires.addressed c.requires.numbered c.requires.beside
+    subst (λ (q : Cell). IsCell c.commit.new.node c.in_ok-stamp.stamp q) (sym (same c))
+    (subst (λ (n : ℕ). IsCell c.commit.new.node n (with_input r i)) (sym c.in_ok-stamp.ensures.ok)
+    (cell_grows c.self.inside.node c.commit.new.node c.self.inside.stamp r i (kept c) c.requires.addressed c.requires.numbered c.requires.beside
     (planned c).spelled (stands_after c)))
 
 pub returns-clause-ok : goal.returns-clause-ok
