@@ -1,6 +1,6 @@
 //! A cell, one input after another.
 
-ghost use Rattle.std.specs.Prelude.{◌≡◌, ◌<◌, ◌∷◌, [], suc, None, IfOk, IfErr, IfSome, IfNone, OnOk, OnErr, All};
+ghost use Rattle.std.specs.Prelude.{◌≡◌, ◌<◌, ◌∷◌, [], None, IfOk, IfErr, IfSome, IfNone, OnOk, OnErr, All};
 ghost use Rattle.node_cell.specs.Entries.{plain_history, plain_input_of};
 ghost use Rattle.node_cell.specs.Cell.{empty_cell, stamp_of, with_input};
 ghost use Rattle.node_cell.specs.Carried.{IsBesidePasses};
@@ -16,9 +16,8 @@ use crate::entry::{CellEntry, CellInput};
 use crate::fault::CellFault;
 use crate::frames::Addressed;
 use crate::live::node_at_start;
-use crate::plan::{commit, make_room, plan};
+use crate::plan::{commit, plan_with_room};
 use crate::reading::read;
-use crate::stamps::stamp_after;
 use node_core::Node;
 use ring_math::{Id, OutOfMemory};
 use std::alloc::Global;
@@ -139,19 +138,17 @@ impl NodeCell {
         ensures due { IfErr result (IsDueTo self.old (plain_input_of input)) }
         ensures in_time { OnOk result (greater_stamp self.old (plain_input_of input) < LAST_STAMP) }
     {
-        let stamp = self.stamp_after(&input)?;
-        let planned = plan(&mut self.node, alloc, input, stamp)?;
-        make_room(&mut self.history, &mut self.unsent, &planned)?;
+        let planned = plan_with_room(
+            &mut self.node,
+            &mut self.history,
+            &mut self.unsent,
+            alloc,
+            input,
+            self.stamp,
+        )?;
+        let stamp = planned.entry.stamp;
         commit(&mut self.node, &mut self.history, &mut self.unsent, planned);
         self.stamp = stamp;
         Ok(())
-    }
-
-    /// The stamp of the entry of an input: one more than the greater of the cell's and the input's.
-    fn stamp_after(&self, input: &CellInput) -> Result<u64, CellFault>
-        ensures ok { IfOk result (λ stamp. stamp ≡ suc (greater_stamp self.now (plain_input_of input.now))) }
-        ensures due { IfErr result (IsDueTo self.now (plain_input_of input.now)) }
-    {
-        stamp_after(self.stamp, input)
     }
 }

@@ -17,7 +17,6 @@ use crate::fault::CellFault;
 use crate::frames::Addressed;
 use crate::plan::{Planned, plan};
 use crate::reading::read;
-use crate::stamps::stamp_after;
 use node_core::Node;
 use ring_math::{Id, OutOfMemory};
 use std::alloc::Global;
@@ -103,9 +102,8 @@ impl LiveNode {
         ensures not_fallen { self.old.stamp ≤ self.new.stamp }
         ensures risen { OnOk result (self.old.stamp < self.new.stamp) }
     {
-        let stamp = stamp_after(self.stamp, &input)?;
-        let planned = plan(&mut self.node, alloc, input, stamp)?;
-        self.stamp = stamp;
+        let planned = plan(&mut self.node, alloc, input, self.stamp)?;
+        self.stamp = planned.entry.stamp;
         Ok(made(&mut self.node, planned))
     }
 }

@@ -1,10 +1,11 @@
 //! A cell that serves from its own mailbox.
 
-ghost use Rattle.std.specs.Prelude.{◌≡◌, true, false, Some, None, [], All, Contains, IfOk, IfErr, IfSome, IfNone, IsSome, slice_get};
+ghost use Rattle.std.specs.Prelude.{◌≡◌, true, false, Some, None, [], All, Contains, IfOk, IfErr, IfSome, IfNone, IsSome, OnOk, OnErr, slice_get};
 ghost use Rattle.node_mailbox.specs.Pass.{TookAllPut};
 ghost use Rattle.node_mailbox.specs.Post.{PostView, AreOf, pass_at};
 ghost use Rattle.node_cell.specs.Carried.{KeepsPasses, just_given};
 ghost use Rattle.node_cell.specs.Equipped.{AreOwnOf, GoesOn, HasPassesOf, IsUnused, TookOut};
+ghost use Rattle.node_cell.specs.Taken.{IsDueToBytes, TookBytes};
 ghost use Rattle.node_cell.specs.Serving.{FoundNone, Refused, Served, TakesInHand, holding};
 
 use crate::carried::Carried;
@@ -70,10 +71,28 @@ impl NodeCell {
             self.carried = Some(carried);
             return Ok(false);
         };
+        self.serve_frame(alloc, carried, frame)?;
+        Ok(true)
+    }
+
+    /// Handles a frame while the cell has not what it carries, and gives it this back. After a fault the frame is in hand.
+    fn serve_frame(
+        &mut self,
+        alloc: Global,
+        mut carried: Carried,
+        frame: Frame,
+    ) -> Result<(), CellFault>
+        requires without { self.old.carried ≡ None }
+        requires no_hand { carried.in_hand ≡ None }
+        requires keeps { KeepsPasses self.old.node self.old.history (holding frame carried) }
+        ensures ok { OnOk result (TookBytes (record self.old { carried = Some carried }) frame self.new) }
+        ensures err { OnErr result (self.new ≡ record self.old { carried = Some (holding frame carried) }) }
+        ensures due { IfErr result (IsDueToBytes self.old frame) }
+    {
         match self.handle(alloc, frame.as_slice()) {
             Ok(()) => {
                 self.carried = Some(carried);
-                Ok(true)
+                Ok(())
             }
             Err(fault) => {
                 carried.in_hand = Some(frame);
