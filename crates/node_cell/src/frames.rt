@@ -77,10 +77,7 @@ fn each_in_envelope(
 }
 
 /// The frame of each envelope, in this order.
-fn frames_of(
-    alloc: Global,
-    envelopes: &[Envelope],
-) -> Result<Vec<Addressed>, OutOfMemory>
+fn frames_of(alloc: Global, envelopes: &[Envelope]) -> Result<Vec<Addressed>, OutOfMemory>
     ensures frames { IfOk result (λ frames. frames.items ≡ map frame_of (map plain_envelope envelopes.now)) }
     ensures spelled { IfOk result (λ frames. All HasFrame (map plain_envelope envelopes.now)) }
 {
