@@ -18,7 +18,7 @@ ghost use Rattle.node_cell.specs.Kept.{IsPlanned};
 use crate::entry::{CellEntry, CellInput};
 use crate::fault::CellFault;
 use crate::frames::{Addressed, Dispatch, append, dispatch_of};
-use crate::stamps::stamp_after;
+use crate::stamps::{Stamped, with_stamp};
 use node_core::{Change, Node, Prepared};
 use ring_math::{Id, OutOfMemory};
 use std::alloc::Global;
@@ -48,7 +48,7 @@ pub(crate) fn plan(
     ensures in_time { OnOk result (max last (input_stamp (plain_input_of input)) < LAST_STAMP) }
     ensures due { IfErr result (IsDueAt last (plain_input_of input)) }
 {
-    let stamp = stamp_after(last, &input)?;
+    let Stamped { stamp, input } = with_stamp(last, input)?;
     let prepared = node.prepare(alloc, &input.as_input())?;
     Ok(with_frames(alloc, node.id(), stamp, input, prepared)?)
 }

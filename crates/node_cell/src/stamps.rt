@@ -10,7 +10,7 @@ use crate::entry::CellInput;
 use crate::fault::CellFault;
 
 /// The stamp of the entry of an input: one more than the greater of the stamp so far and the input's.
-pub(crate) fn stamp_after(last: u64, input: &CellInput) -> Result<u64, CellFault>
+fn stamp_after(last: u64, input: &CellInput) -> Result<u64, CellFault>
     ensures ok { IfOk result (λ stamp. stamp ≡ suc (max last (input_stamp (plain_input_of input.now)))) }
     ensures in_time { OnOk result (max last (input_stamp (plain_input_of input.now)) < LAST_STAMP) }
     ensures due { IfErr result (IsDueAt last (plain_input_of input.now)) }
@@ -20,4 +20,22 @@ pub(crate) fn stamp_after(last: u64, input: &CellInput) -> Result<u64, CellFault
         Some(stamp) => Ok(stamp),
         None => Err(CellFault::Spent { stamp: greater }),
     }
+}
+
+/// An input, and the stamp of its entry.
+#[derive(Drop)]
+pub(crate) struct Stamped {
+    pub(crate) stamp: u64,
+    pub(crate) input: CellInput,
+}
+
+/// The input with the stamp of its entry, as [`stamp_after`] has it.
+pub(crate) fn with_stamp(last: u64, input: CellInput) -> Result<Stamped, CellFault>
+    ensures stamp { IfOk result (λ s. s.stamp ≡ suc (max last (input_stamp (plain_input_of input)))) }
+    ensures input { IfOk result (λ s. s.input ≡ input) }
+    ensures in_time { OnOk result (max last (input_stamp (plain_input_of input)) < LAST_STAMP) }
+    ensures due { IfErr result (IsDueAt last (plain_input_of input)) }
+{
+    let stamp = stamp_after(last, &input)?;
+    Ok(Stamped { stamp, input })
 }
