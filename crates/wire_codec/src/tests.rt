@@ -2,7 +2,7 @@ use super::*;
 use ring_math::{Bytes, FileId, FileIds, Id, Ids, IdsBuilder};
 use std::alloc::Global;
 use std::test::Fail;
-use wire_msg::{Answer, Command, Copies, Envelope, Message, Note, Own, Reply, Why};
+use wire_msg::{Answer, Command, Copies, Envelope, Frame, Message, Note, Own, Reply, Why};
 
 const TEN: Id = Id(0x10000000000000000000000000000000);
 
@@ -42,18 +42,32 @@ fn is_announce(envelope: &Envelope) -> bool {
         && matches!(&envelope.message, Message::Announce)
 }
 
+/// The frame of a message. What is dropped by a call is one step here, and at the end of a block a case for each kind of message.
+fn spelled(alloc: Global, message: Message) -> Result<Frame, Fail> {
+    let envelope = sent(message);
+    let frame = encode(alloc, &envelope);
+    drop(envelope);
+    Ok(frame?)
+}
+
 fn is_spelled(alloc: Global, envelope: &Envelope, bytes: &[u8]) -> Result<bool, Fail> {
     let frame = encode(alloc, envelope)?;
     Ok(frame.as_slice() == bytes)
 }
 
+fn is_read_as_announce(alloc: Global, bytes: &[u8]) -> Result<bool, Fail> {
+    let envelope = decode(alloc, bytes)?;
+    let is_so = is_announce(&envelope);
+    drop(envelope);
+    Ok(is_so)
+}
+
 #[test]
 fn an_announce(rt: HostRuntime) -> Result<(), Fail> {
     let alloc = rt.alloc();
-    assert!(rt; is_spelled(alloc, &sent(Message::Announce), &ANNOUNCE)?);
+    assert!(rt; spelled(alloc, Message::Announce)?.as_slice() == ANNOUNCE.as_slice());
     assert!(rt; is_frame(&ANNOUNCE));
-    let envelope = decode(alloc, &ANNOUNCE)?;
-    assert!(rt; is_announce(&envelope));
+    assert!(rt; is_read_as_announce(alloc, &ANNOUNCE)?);
     Ok(())
 }
 
@@ -139,12 +153,13 @@ fn all_ids(alloc: Global) -> Result<Ids, Fail> {
 /// The frame of a grant with so many tombstones.
 fn grant(alloc: Global, tombs: u16) -> Result<Vec<u8>, Fail> {
     let manifest = no_files(alloc)?;
+    let tombs = files(alloc, tombs)?;
     let grant = Message::Grant {
         attempt: 1,
         manifest,
-        tombs: files(alloc, tombs)?,
+        tombs,
     };
-    let frame = encode(alloc, &sent(grant))?;
+    let frame = spelled(alloc, grant)?;
     Ok(frame.as_slice().to_vec(alloc)?)
 }
 
@@ -200,7 +215,7 @@ fn is_refused_with(
 #[test]
 fn parts_of_an_insert(rt: HostRuntime) -> Result<(), Fail> {
     let alloc = rt.alloc();
-    let frame = encode(alloc, &sent(insert(alloc, &[7])?))?;
+    let frame = spelled(alloc, insert(alloc, &[7])?)?;
     // Places and their bytes, and what is refused then. The copies stand at place 92, the length of the bytes at 93.
     for (place, byte, fault) in [
         (92, 0, FrameFault::Range { place: 92 }),
@@ -390,14 +405,16 @@ const FRAMES: [(u8, u8, u8, u32); 36] = [
 /// Whether these bytes are a frame, and the spelling of what they are read as.
 fn is_spelling(alloc: Global, frame: &[u8]) -> Result<bool, Fail> {
     let back = decode(alloc, frame)?;
-    Ok(is_frame(frame) && is_spelled(alloc, &back, frame)?)
+    let is_so = is_spelled(alloc, &back, frame);
+    drop(back);
+    Ok(is_so? && is_frame(frame))
 }
 
 #[test]
 fn there_and_back(rt: HostRuntime) -> Result<(), Fail> {
     let alloc = rt.alloc();
     for (kind, tag, version, length) in FRAMES {
-        let frame = encode(alloc, &sent(message(alloc, kind, tag)?))?;
+        let frame = spelled(alloc, message(alloc, kind, tag)?)?;
         let frame = frame.as_slice();
         let length = length.to_be_bytes();
         assert!(rt; frame.starts_with(&[version, kind]), "kind {kind}");
@@ -458,7 +475,9 @@ fn is_command_spelled(alloc: Global, command: &Command, spelled: &[u8]) -> Resul
 
 fn is_command_read(alloc: Global, spelled: &[u8]) -> Result<bool, Fail> {
     let back = decode_command(alloc, spelled)?;
-    is_command_spelled(alloc, &back, spelled)
+    let is_so = is_command_spelled(alloc, &back, spelled);
+    drop(back);
+    is_so
 }
 
 #[test]
@@ -541,15 +560,23 @@ const NOTES: [(u8, u8, u8, usize); 11] = [
 /// Whether these bytes are a note, and the spelling of what they are read as.
 fn is_note(alloc: Global, bytes: &[u8]) -> Result<bool, Fail> {
     let back = decode_note(alloc, bytes)?;
-    let again = encode_note(alloc, &back)?;
-    Ok(again.as_slice() == bytes)
+    let again = encode_note(alloc, &back);
+    drop(back);
+    Ok(again?.as_slice() == bytes)
+}
+
+fn note_bytes(alloc: Global, tag: u8) -> Result<Frame, Fail> {
+    let note = note(alloc, tag)?;
+    let bytes = encode_note(alloc, &note);
+    drop(note);
+    Ok(bytes?)
 }
 
 #[test]
 fn notes_there_and_back(rt: HostRuntime) -> Result<(), Fail> {
     let alloc = rt.alloc();
     for (tag, first, last, length) in NOTES {
-        let bytes = encode_note(alloc, &note(alloc, tag)?)?;
+        let bytes = note_bytes(alloc, tag)?;
         let bytes = bytes.as_slice();
         assert!(rt; bytes.len() == length, "note {tag}");
         assert!(rt;
