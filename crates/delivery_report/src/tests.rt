@@ -30,14 +30,6 @@ fn nodes(alloc: Global) -> Result<Vec<NodeLine>, Fail> {
     Ok(nodes)
 }
 
-fn entry(alloc: Global, event: Event) -> Entry {
-    Entry {
-        event,
-        messages: Envelopes::new(alloc),
-        notes: Notes::new(alloc),
-    }
-}
-
 fn announcement(sender: Id, receiver: Id) -> Envelope {
     Envelope {
         sender,
@@ -64,11 +56,22 @@ fn looked_up(node: Id, number: u64, key: Id) -> Event {
     }
 }
 
-/// A node alone looks up a key, and is answered by itself.
-fn least_run(alloc: Global) -> Result<Record, Fail> {
-    let key = Id(0xff << 120);
-    let mut asked = entry(alloc, looked_up(A, 1, key));
-    asked.messages.push(Envelope {
+/// The report of what was done, which is no more. What is dropped by a call is one step here, and at the end of a block one for each
+/// list in it.
+fn reported(alloc: Global, commands: u64, steps: Record) -> Result<Frame, Fail> {
+    let text = printed(alloc, commands, &steps);
+    drop(steps);
+    text
+}
+
+fn printed(alloc: Global, commands: u64, steps: &Record) -> Result<Frame, Fail> {
+    let nodes = nodes(alloc)?;
+    Ok(report_of(alloc, &nodes, commands, steps)?)
+}
+
+fn asked(alloc: Global, key: Id) -> Result<Entry, Fail> {
+    let mut messages = Envelopes::new(alloc);
+    messages.push(Envelope {
         sender: A,
         receiver: A,
         stamp: 1,
@@ -77,20 +80,38 @@ fn least_run(alloc: Global) -> Result<Record, Fail> {
             reply: Reply::Delivered { node: A, hops: 0 },
         },
     })?;
-    asked.notes.push(delivered(1, key, 0))?;
-    asked.notes.push(Note::Answered {
+    let mut notes = Notes::new(alloc);
+    notes.push(delivered(1, key, 0))?;
+    notes.push(Note::Answered {
         origin: A,
         number: 1,
         reply: Reply::Delivered { node: A, hops: 0 },
     })?;
-    let mut answered = entry(alloc, Event::Deliver { message: 0 });
-    answered.notes.push(Note::Closed {
+    Ok(Entry {
+        event: looked_up(A, 1, key),
+        messages,
+        notes,
+    })
+}
+
+fn answered(alloc: Global) -> Result<Entry, Fail> {
+    let mut notes = Notes::new(alloc);
+    notes.push(Note::Closed {
         number: 1,
         answer: Answer::Reply(Reply::Delivered { node: A, hops: 0 }),
     })?;
+    Ok(Entry {
+        event: Event::Deliver { message: 0 },
+        messages: Envelopes::new(alloc),
+        notes,
+    })
+}
+
+/// A node alone looks up a key, and is answered by itself.
+fn least_run(alloc: Global) -> Result<Record, Fail> {
     let mut entries = Entries::new(alloc);
-    entries.push(asked)?;
-    entries.push(answered)?;
+    entries.push(asked(alloc, Id(0xff << 120))?)?;
+    entries.push(answered(alloc)?)?;
     Ok(Record {
         entries,
         skipped: 0,
@@ -99,9 +120,8 @@ fn least_run(alloc: Global) -> Result<Record, Fail> {
 
 #[test]
 fn the_least_run_is_reported(rt: HostRuntime) -> Result<(), Fail> {
-    let nodes = nodes(rt.alloc())?;
     let steps = least_run(rt.alloc())?;
-    let text = report_of(rt.alloc(), &nodes, 1, &steps)?;
+    let text = reported(rt.alloc(), 1, steps)?;
     let expected = b"1 delivered by A hops 0
 delivery 1 of ff000000000000000000000000000000 by A hops 0
 summary entries 2 sent 1 undelivered 0 deliveries 1 skipped 0 ready 1
@@ -112,7 +132,13 @@ summary entries 2 sent 1 undelivered 0 deliveries 1 skipped 0 ready 1
 
 /// Each form of answer.
 fn answers(alloc: Global) -> Result<Vec<Answer>, Fail> {
-    let mut answers = replies(alloc)?;
+    let mut answers = Vec::new(alloc);
+    add_replies(alloc, &mut answers)?;
+    add_endings(&mut answers)?;
+    Ok(answers)
+}
+
+fn add_endings(answers: &mut Vec<Answer>) -> Result<(), Fail> {
     let why = Why::Moved { left: B, right: C };
     answers.push(Answer::Joined { left: A, right: B })?;
     answers.push(denied(Why::Busy { joiner: C }))?;
@@ -123,7 +149,7 @@ fn answers(alloc: Global) -> Result<Vec<Answer>, Fail> {
     answers.push(stopped(Own::Spent))?;
     answers.push(Answer::GaveUp)?;
     answers.push(Answer::NothingToGiveUp)?;
-    Ok(answers)
+    Ok(())
 }
 
 fn denied(why: Why) -> Answer {
@@ -134,25 +160,24 @@ fn stopped(own: Own) -> Answer {
     Answer::Stopped { node: A, own }
 }
 
-fn replies(alloc: Global) -> Result<Vec<Answer>, Fail> {
-    let mut answers = Vec::new(alloc);
-    for reply in [
-        Reply::Delivered { node: A, hops: 3 },
-        stored(alloc)?,
-        found(alloc, b"abc")?,
-        found(alloc, b"")?,
-        Reply::NotFound { node: A },
-        Reply::Collision { node: A },
-        Reply::TooFew { node: A, known: 2 },
-        Reply::Busy { node: A, joiner: C },
-        Reply::NotReady { node: A },
-        Reply::Full { node: A },
-        Reply::Gone { node: STRANGER },
-        Reply::Reclaimed { node: A },
-    ] {
-        answers.push(Answer::Reply(reply))?;
-    }
-    Ok(answers)
+fn add_replies(alloc: Global, answers: &mut Vec<Answer>) -> Result<(), Fail> {
+    add_reply(answers, Reply::Delivered { node: A, hops: 3 })?;
+    add_reply(answers, stored(alloc)?)?;
+    add_reply(answers, found(alloc, b"abc")?)?;
+    add_reply(answers, found(alloc, b"")?)?;
+    add_reply(answers, Reply::NotFound { node: A })?;
+    add_reply(answers, Reply::Collision { node: A })?;
+    add_reply(answers, Reply::TooFew { node: A, known: 2 })?;
+    add_reply(answers, Reply::Busy { node: A, joiner: C })?;
+    add_reply(answers, Reply::NotReady { node: A })?;
+    add_reply(answers, Reply::Full { node: A })?;
+    add_reply(answers, Reply::Gone { node: STRANGER })?;
+    add_reply(answers, Reply::Reclaimed { node: A })
+}
+
+fn add_reply(answers: &mut Vec<Answer>, reply: Reply) -> Result<(), Fail> {
+    answers.push(Answer::Reply(reply))?;
+    Ok(())
 }
 
 fn stored(alloc: Global) -> Result<Reply, Fail> {
@@ -171,14 +196,22 @@ fn found(alloc: Global, bytes: &[u8]) -> Result<Reply, Fail> {
     Ok(Reply::Found { node: A, bytes })
 }
 
+fn closing(alloc: Global, number: u64, answer: Answer) -> Result<Entry, Fail> {
+    let mut notes = Notes::new(alloc);
+    notes.push(Note::Closed { number, answer })?;
+    Ok(Entry {
+        event: Event::Noise { node: A },
+        messages: Envelopes::new(alloc),
+        notes,
+    })
+}
+
 /// The commands are closed in the reverse order of their numbers. One of them is a join, so two nodes are ready.
 fn record_of(alloc: Global, mut answers: Vec<Answer>) -> Result<Record, Fail> {
     let mut entries = Entries::new(alloc);
     while let Some(answer) = answers.pop() {
-        let mut closing = entry(alloc, Event::Noise { node: A });
         let number = answers.len() as u64 + 1;
-        closing.notes.push(Note::Closed { number, answer })?;
-        entries.push(closing)?;
+        entries.push(closing(alloc, number, answer)?)?;
     }
     Ok(Record {
         entries,
@@ -188,10 +221,9 @@ fn record_of(alloc: Global, mut answers: Vec<Answer>) -> Result<Record, Fail> {
 
 #[test]
 fn each_answer_is_printed(rt: HostRuntime) -> Result<(), Fail> {
-    let nodes = nodes(rt.alloc())?;
     let answers = answers(rt.alloc())?;
     let steps = record_of(rt.alloc(), answers)?;
-    let text = report_of(rt.alloc(), &nodes, 22, &steps)?;
+    let text = reported(rt.alloc(), 22, steps)?;
     let expected = b"1 delivered by A hops 3
 2 stored at A B C_3
 3 found by A 616263
@@ -220,24 +252,68 @@ summary entries 21 sent 0 undelivered 0 deliveries 0 skipped 0 ready 2
     Ok(())
 }
 
+/// Announcements from senders to receivers.
+fn announced(alloc: Global, between: &[(Id, Id)]) -> Result<Envelopes, Fail> {
+    let mut messages = Envelopes::new(alloc);
+    for (sender, receiver) in between {
+        messages.push(announcement(*sender, *receiver))?;
+    }
+    Ok(messages)
+}
+
+/// Notes of deliveries: the numbers of the lookups, their keys and hops.
+fn noted(alloc: Global, deliveries: &[(u64, Id, u16)]) -> Result<Notes, Fail> {
+    let mut notes = Notes::new(alloc);
+    for (number, key, hops) in deliveries {
+        notes.push(delivered(*number, *key, *hops))?;
+    }
+    Ok(notes)
+}
+
+fn looking(
+    alloc: Global,
+    lookup: (Id, u64, Id),
+    between: &[(Id, Id)],
+    deliveries: &[(u64, Id, u16)],
+) -> Result<Entry, Fail> {
+    let messages = announced(alloc, between)?;
+    let notes = noted(alloc, deliveries)?;
+    let (node, number, key) = lookup;
+    Ok(Entry {
+        event: looked_up(node, number, key),
+        messages,
+        notes,
+    })
+}
+
+fn coming(
+    alloc: Global,
+    message: u64,
+    between: &[(Id, Id)],
+    delivery: (u64, Id, u16),
+) -> Result<Entry, Fail> {
+    let messages = announced(alloc, between)?;
+    let notes = noted(alloc, &[delivery])?;
+    Ok(Entry {
+        event: Event::Deliver { message },
+        messages,
+        notes,
+    })
+}
+
+fn add_deliveries(alloc: Global, entries: &mut Entries) -> Result<(), Fail> {
+    entries.push(looking(alloc, (A, 1, B), &[(A, B), (A, C)], &[])?)?;
+    entries.push(coming(alloc, 0, &[(B, STRANGER)], (1, B, 1))?)?;
+    entries.push(coming(alloc, 0, &[], (1, B, 1))?)?;
+    entries.push(coming(alloc, 2, &[], (3, STRANGER, 65535))?)?;
+    entries.push(looking(alloc, (C, 2, C), &[], &[(2, C, 0)])?)?;
+    Ok(())
+}
+
 /// Of three messages the first is delivered twice, the second never, and the third at an identifier that is no node's.
 fn deliveries(alloc: Global) -> Result<Record, Fail> {
-    let mut asked = entry(alloc, looked_up(A, 1, B));
-    asked.messages.push(announcement(A, B))?;
-    asked.messages.push(announcement(A, C))?;
-    let mut first = entry(alloc, Event::Deliver { message: 0 });
-    first.messages.push(announcement(B, STRANGER))?;
-    first.notes.push(delivered(1, B, 1))?;
-    let mut again = entry(alloc, Event::Deliver { message: 0 });
-    again.notes.push(delivered(1, B, 1))?;
-    let mut third = entry(alloc, Event::Deliver { message: 2 });
-    third.notes.push(delivered(3, STRANGER, 65535))?;
-    let mut here = entry(alloc, looked_up(C, 2, C));
-    here.notes.push(delivered(2, C, 0))?;
     let mut entries = Entries::new(alloc);
-    for entry in [asked, first, again, third, here] {
-        entries.push(entry)?;
-    }
+    add_deliveries(alloc, &mut entries)?;
     Ok(Record {
         entries,
         skipped: 7,
@@ -246,9 +322,8 @@ fn deliveries(alloc: Global) -> Result<Record, Fail> {
 
 #[test]
 fn each_delivery_has_its_line(rt: HostRuntime) -> Result<(), Fail> {
-    let nodes = nodes(rt.alloc())?;
     let steps = deliveries(rt.alloc())?;
-    let text = report_of(rt.alloc(), &nodes, 0, &steps)?;
+    let text = reported(rt.alloc(), 0, steps)?;
     let expected = b"delivery 1 of 20000000000000000000000000000000 by B hops 1
 delivery 1 of 20000000000000000000000000000000 by B hops 1
 delivery 3 of 0123456789abcdef0123456789abcdef by 0123456789abcdef0123456789abcdef hops 65535
@@ -259,11 +334,18 @@ summary entries 5 sent 3 undelivered 1 deliveries 4 skipped 7 ready 1
     Ok(())
 }
 
+/// The summary of what was done, which is no more.
+fn summed_up(alloc: Global, commands: u64, steps: Record) -> Result<Frame, Fail> {
+    let text = brief_of(alloc, commands, &steps);
+    drop(steps);
+    Ok(text?)
+}
+
 #[test]
 fn the_summary_has_a_tally(rt: HostRuntime) -> Result<(), Fail> {
     let answers = answers(rt.alloc())?;
     let steps = record_of(rt.alloc(), answers)?;
-    let text = brief_of(rt.alloc(), 25, &steps)?;
+    let text = summed_up(rt.alloc(), 25, steps)?;
     let expected = b"summary entries 21 sent 0 undelivered 0 deliveries 0 skipped 0 ready 2
 tally joined 1 denied 6 stored 1 found 2 missing 1 unanswered 4 other 10
 ";
@@ -284,20 +366,44 @@ fn alone(alloc: Global) -> Result<Scenario, Fail>
     Ok(scenario)
 }
 
-#[test]
-fn what_was_not_done_is_reported(rt: HostRuntime) -> Result<(), Fail> {
-    let scenario = alone(rt.alloc())?;
+fn report_of_nothing(alloc: Global) -> Result<Frame, Fail> {
+    let scenario = alone(alloc)?;
     let steps = Record {
-        entries: Entries::new(rt.alloc()),
+        entries: Entries::new(alloc),
         skipped: 3,
     };
-    let text = report(rt.alloc(), &scenario, &steps)?;
+    let text = report(alloc, &scenario, &steps);
+    drop(steps);
+    drop(scenario);
+    Ok(text?)
+}
+
+fn summary_of_nothing(alloc: Global) -> Result<Frame, Fail> {
+    let scenario = alone(alloc)?;
+    let steps = Record {
+        entries: Entries::new(alloc),
+        skipped: 3,
+    };
+    let text = summary(alloc, &scenario, &steps);
+    drop(steps);
+    drop(scenario);
+    Ok(text?)
+}
+
+#[test]
+fn what_was_not_done_is_reported(rt: HostRuntime) -> Result<(), Fail> {
+    let text = report_of_nothing(rt.alloc())?;
     let expected = b"1 unanswered
 2 unanswered
 summary entries 0 sent 0 undelivered 0 deliveries 0 skipped 3 ready 1
 ";
     assert_eq!(rt; text.as_slice(), expected.as_slice());
-    let text = summary(rt.alloc(), &scenario, &steps)?;
+    Ok(())
+}
+
+#[test]
+fn what_was_not_done_is_summed_up(rt: HostRuntime) -> Result<(), Fail> {
+    let text = summary_of_nothing(rt.alloc())?;
     let expected = b"summary entries 0 sent 0 undelivered 0 deliveries 0 skipped 3 ready 1
 tally joined 0 denied 0 stored 0 found 0 missing 0 unanswered 2 other 0
 ";
