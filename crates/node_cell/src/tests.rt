@@ -15,7 +15,7 @@ const B: Id = Id(0x90 << 120);
 
 const C: Id = Id(0x30 << 120);
 
-fn is_sent<T: Send>(_value: &T) {}
+fn is_sent<T: Send>() {}
 
 /// A message to a node, with a stamp, comes to a cell.
 fn take(
@@ -33,8 +33,9 @@ fn take(
         stamp,
         message: Message::Announce,
     };
-    let frame = encode(alloc, &envelope)?;
-    Ok(cell.handle(alloc, frame.as_slice()))
+    let frame = encode(alloc, &envelope);
+    drop(envelope);
+    Ok(cell.handle(alloc, frame?.as_slice()))
 }
 
 /// Noise, and two messages, of which the second was sent before the first came.
@@ -47,32 +48,41 @@ fn take_three(cell: &mut NodeCell, alloc: Global) -> Result<(), Fail>
     Ok(take(cell, alloc, A, 3)??)
 }
 
+/// Whether their stamps follow the greater, and nothing is sent.
+fn follows(cell: &mut NodeCell, alloc: Global) -> Result<bool, Fail>
+    requires { cell.old.carried ≡ None }
+{
+    take_three(cell, alloc)?;
+    let mut stamps = cell.history().iter().map(|entry| entry.stamp);
+    Ok(stamps.eq([1, 10, 11]) && cell.stamp() == 11 && cell.next_unsent().is_none())
+}
+
+// A cell is dropped by a call: at the end of a block its drop would be written out, part for part, at each way out.
 #[test]
 fn stamps_follow_the_greater(rt: HostRuntime) -> Result<(), Fail> {
     let mut cell = NodeCell::new(rt.alloc(), A, true)?;
-    take_three(&mut cell, rt.alloc())?;
-    let mut stamps = cell.history().iter().map(|entry| entry.stamp);
-    assert!(rt; stamps.eq([1, 10, 11]));
-    assert_eq!(rt; cell.stamp(), 11);
-    assert!(rt; cell.next_unsent().is_none());
+    let is_so = follows(&mut cell, rt.alloc());
+    drop(cell);
+    assert!(rt; is_so?);
     Ok(())
 }
 
-/// A message to another node, and bytes that are no frame.
-fn take_noise(cell: &mut NodeCell, alloc: Global) -> Result<(), Fail>
+/// A message to another node, and bytes that are no frame: whether both are noise.
+fn takes_noise(cell: &mut NodeCell, alloc: Global) -> Result<bool, Fail>
     requires { cell.old.carried ≡ None }
 {
     take(cell, alloc, C, 9)??;
-    Ok(cell.handle(alloc, b"\x01\x12")?)
+    cell.handle(alloc, b"\x01\x12")?;
+    let mut inputs = cell.history().iter().map(|entry| &entry.input);
+    Ok(inputs.all(|input| matches!(input, CellInput::Noise)) && cell.stamp() == 2)
 }
 
 #[test]
 fn what_is_for_others_is_noise(rt: HostRuntime) -> Result<(), Fail> {
     let mut cell = NodeCell::new(rt.alloc(), A, true)?;
-    take_noise(&mut cell, rt.alloc())?;
-    let mut inputs = cell.history().iter().map(|entry| &entry.input);
-    assert!(rt; inputs.all(|input| matches!(input, CellInput::Noise)));
-    assert_eq!(rt; cell.stamp(), 2);
+    let is_so = takes_noise(&mut cell, rt.alloc());
+    drop(cell);
+    assert!(rt; is_so?);
     Ok(())
 }
 
@@ -87,22 +97,22 @@ fn takes_the_second(cell: &mut NodeCell, alloc: Global) -> Result<bool, Fail>
     let last = take(cell, alloc, A, u64::MAX)?;
     let before = take(cell, alloc, A, u64::MAX - 1)?;
     let noise = cell.handle(alloc, b"");
-    Ok(is_spent(last) && before.is_ok() && is_spent(noise))
+    let is_second = cell.history().len() == 1 && cell.stamp() == u64::MAX;
+    Ok(is_spent(last) && before.is_ok() && is_spent(noise) && is_second)
 }
 
 #[test]
 fn a_spent_cell_takes_nothing_in(rt: HostRuntime) -> Result<(), Fail> {
     let mut cell = NodeCell::new(rt.alloc(), A, true)?;
-    assert!(rt; takes_the_second(&mut cell, rt.alloc())?);
-    assert_eq!(rt; cell.history().len(), 1);
-    assert_eq!(rt; cell.stamp(), u64::MAX);
+    let is_so = takes_the_second(&mut cell, rt.alloc());
+    drop(cell);
+    assert!(rt; is_so?);
     Ok(())
 }
 
 #[test]
-fn a_cell_can_be_lent_to_a_thread(rt: HostRuntime) -> Result<(), Fail> {
-    is_sent(&NodeCell::new(rt.alloc(), A, true)?);
-    Ok(())
+fn a_cell_can_be_lent_to_a_thread() {
+    is_sent::<NodeCell>();
 }
 
 /// A message to A with stamp 9.
@@ -113,27 +123,40 @@ fn later_frame(alloc: Global) -> Result<Frame, OutOfMemory> {
         stamp: 9,
         message: Message::Announce,
     };
-    encode(alloc, &envelope)
+    let frame = encode(alloc, &envelope);
+    drop(envelope);
+    frame
 }
 
 /// The stamp at which a node is told to join, and how many frames it then sends.
 fn told(live: &mut LiveNode, alloc: Global) -> Result<(u64, usize), CellFault> {
     let taken = live.submit(alloc, 1, &Command::Join { via: B })?;
-    Ok((taken.entry.stamp, taken.frames.len()))
+    let found = (taken.entry.stamp, taken.frames.len());
+    drop(taken);
+    Ok(found)
 }
 
 /// The stamp at which bytes come to a node, and how many frames it then sends.
 fn came(live: &mut LiveNode, alloc: Global, bytes: &[u8]) -> Result<(u64, usize), CellFault> {
     let taken = live.handle(alloc, bytes)?;
-    Ok((taken.entry.stamp, taken.frames.len()))
+    let found = (taken.entry.stamp, taken.frames.len());
+    drop(taken);
+    Ok(found)
+}
+
+/// Whether it is told to join, and then takes in noise and a message.
+fn goes_on(live: &mut LiveNode, alloc: Global) -> Result<bool, Fail> {
+    let joins = told(live, alloc)? == (1, 1);
+    let hears = came(live, alloc, b"")? == (2, 0);
+    let frame = later_frame(alloc)?;
+    Ok(joins && hears && came(live, alloc, frame.as_slice())? == (10, 0))
 }
 
 #[test]
 fn a_node_goes_on_without_its_history(rt: HostRuntime) -> Result<(), Fail> {
     let mut live = LiveNode::new(rt.alloc(), A, false)?;
-    assert_eq!(rt; told(&mut live, rt.alloc())?, (1, 1));
-    assert_eq!(rt; came(&mut live, rt.alloc(), b"")?, (2, 0));
-    let frame = later_frame(rt.alloc())?;
-    assert_eq!(rt; came(&mut live, rt.alloc(), frame.as_slice())?, (10, 0));
+    let is_so = goes_on(&mut live, rt.alloc());
+    drop(live);
+    assert!(rt; is_so?);
     Ok(())
 }

@@ -49,69 +49,159 @@ fn busy() -> Reach {
     }
 }
 
+// Each question is a function that borrows the store: what a test owns is dropped by a call, and not part for part at each way out.
+
+/// Whether these are the files that are handed over to a joiner.
+fn is_in_gap(alloc: Global, store: &FileStore, joiner: u8, files: &[FileId]) -> Result<bool, Fail> {
+    let found = in_gap(alloc, store, &busy(), id(joiner))?;
+    Ok(found.as_slice() == files)
+}
+
+/// Whether these are the tombstones.
+fn are_tombs_in_gap(
+    alloc: Global,
+    store: &FileStore,
+    joiner: u8,
+    tombs: &[FileId],
+) -> Result<bool, Fail> {
+    let found = tombs_in_gap(alloc, store, &busy(), id(joiner))?;
+    Ok(found.as_slice() == tombs)
+}
+
+fn hands_over(alloc: Global, store: &FileStore) -> Result<bool, Fail> {
+    Ok(
+        is_in_gap(alloc, store, 0x50, &[file(0x40), file(0x50)])?
+            && are_tombs_in_gap(alloc, store, 0x50, &[file(0x31), file(0x48)])?
+            && is_in_gap(alloc, store, 0xf8, &[file(0xfa)])?,
+    )
+}
+
 // From 10~ half way to 90~ is 50~, and half way to the joiner 50~ is 30~, which stays with 10~.
 #[test]
 fn the_gap_of_a_joiner_is_handed_over(rt: HostRuntime) -> Result<(), Fail> {
-    let store = store_of(
-        rt.alloc(),
-        &[0x60, 0x50, 0x20, 0x40, 0x30, 0xfa],
-        &[0x48, 0x31, 0x70],
-    )?;
-    let files = in_gap(rt.alloc(), &store, &busy(), id(0x50))?;
-    assert_eq!(rt; files.as_slice(), [file(0x40), file(0x50)].as_slice());
-    let tombs = tombs_in_gap(rt.alloc(), &store, &busy(), id(0x50))?;
-    assert_eq!(rt; tombs.as_slice(), [file(0x31), file(0x48)].as_slice());
-    let other = in_gap(rt.alloc(), &store, &busy(), id(0xf8))?;
-    assert_eq!(rt; other.as_slice(), [file(0xfa)].as_slice());
+    let files = [0x60, 0x50, 0x20, 0x40, 0x30, 0xfa];
+    let store = store_of(rt.alloc(), &files, &[0x48, 0x31, 0x70])?;
+    let is_so = hands_over(rt.alloc(), &store);
+    drop(store);
+    assert!(rt; is_so?);
     Ok(())
 }
 
-#[test]
-fn who_does_not_join_has_no_gap(rt: HostRuntime) -> Result<(), Fail> {
-    let mut store = store_of(rt.alloc(), &[0x40], &[])?;
+fn takes_no_more(alloc: Global, store: &mut FileStore) -> Result<bool, Fail> {
+    let one = Bytes::copy_of(alloc, b"1")?;
+    Ok(store.put(alloc, file(0x40), &one)? == Put::Gone)
+}
+
+fn has_no_tombs(alloc: Global, store: &FileStore) -> Result<bool, Fail> {
     let alone = Reach {
         left_joiner: None,
         right_joiner: None,
         ..busy()
     };
-    assert_eq!(rt; store.bury(rt.alloc(), file(0x40))?, Bury::Buried);
-    assert_eq!(rt; store.bury(rt.alloc(), file(0x41))?, Bury::Laid);
-    let one = Bytes::copy_of(rt.alloc(), b"1")?;
-    assert_eq!(rt; store.put(rt.alloc(), file(0x40), &one)?, Put::Gone);
-    let tombs = tombs_in_gap(rt.alloc(), &store, &alone, id(0x50))?;
-    assert!(rt; tombs.as_slice().is_empty());
+    let tombs = tombs_in_gap(alloc, store, &alone, id(0x50))?;
+    Ok(tombs.as_slice().is_empty())
+}
+
+fn buries_for_itself(alloc: Global, store: &mut FileStore) -> Result<bool, Fail> {
+    Ok(
+        store.bury(alloc, file(0x40))? == Bury::Buried
+            && store.bury(alloc, file(0x41))? == Bury::Laid
+            && takes_no_more(alloc, store)?
+            && has_no_tombs(alloc, store)?,
+    )
+}
+
+#[test]
+fn who_does_not_join_has_no_gap(rt: HostRuntime) -> Result<(), Fail> {
+    let mut store = store_of(rt.alloc(), &[0x40], &[])?;
+    let is_so = buries_for_itself(rt.alloc(), &mut store);
+    drop(store);
+    assert!(rt; is_so?);
     Ok(())
+}
+
+fn pledge(alloc: Global, manifest: &[u8], tombs: &[u8]) -> Result<Pledge, Fail> {
+    let manifest = list(alloc, manifest)?;
+    Ok(Pledge::new(manifest, list(alloc, tombs)?))
+}
+
+fn expect_left(taking: &mut Taking, alloc: Global, files: &[u8], tombs: &[u8]) -> Result<(), Fail> {
+    let files = list(alloc, files)?;
+    taking.expect_left(files, list(alloc, tombs)?);
+    Ok(())
+}
+
+fn expect_right(
+    taking: &mut Taking,
+    alloc: Global,
+    files: &[u8],
+    tombs: &[u8],
+) -> Result<(), Fail> {
+    let files = list(alloc, files)?;
+    taking.expect_right(files, list(alloc, tombs)?);
+    Ok(())
+}
+
+/// Both sides pledge, and then each something else, which is dropped. Whether the right side had pledged nothing before.
+fn pledge_twice(taking: &mut Taking, alloc: Global) -> Result<bool, Fail> {
+    expect_left(taking, alloc, &[1, 2], &[3])?;
+    expect_left(taking, alloc, &[], &[])?;
+    let is_open = taking.right().is_none();
+    expect_right(taking, alloc, &[1], &[])?;
+    expect_right(taking, alloc, &[9], &[9])?;
+    Ok(is_open)
+}
+
+/// Whether it is complete just when the last of what was pledged has come.
+fn waits_for_all(taking: &Taking, alloc: Global, store: &mut FileStore) -> Result<bool, Fail> {
+    let at_first = taking.complete(store);
+    store.bury(alloc, file(3))?;
+    let before_the_last = taking.complete(store);
+    store.bury(alloc, file(2))?;
+    Ok(!at_first && !before_the_last && taking.complete(store))
+}
+
+fn copy_waits_for_all(taking: &Taking, alloc: Global, store: &mut FileStore) -> Result<bool, Fail> {
+    let copy = taking.copy(alloc)?;
+    let is_so = waits_for_all(&copy, alloc, store);
+    drop(copy);
+    Ok(is_so? && taking.complete(store))
+}
+
+fn waits(taking: &mut Taking, alloc: Global, store: &mut FileStore) -> Result<bool, Fail> {
+    let at_first = taking.complete(store);
+    let is_open = pledge_twice(taking, alloc)?;
+    Ok(!at_first && is_open && copy_waits_for_all(taking, alloc, store)?)
 }
 
 #[test]
 fn a_joiner_waits_for_all_that_was_pledged(rt: HostRuntime) -> Result<(), Fail> {
-    let alloc = rt.alloc();
-    let mut store = store_of(alloc, &[1, 3], &[])?;
+    let mut store = store_of(rt.alloc(), &[1, 3], &[])?;
     let mut taking = Taking::new();
-    assert!(rt; !taking.complete(&store));
-    taking.expect_left(list(alloc, &[1, 2])?, list(alloc, &[3])?);
-    taking.expect_left(list(alloc, &[])?, list(alloc, &[])?);
-    assert!(rt; taking.right().is_none());
-    taking.expect_right(list(alloc, &[1])?, list(alloc, &[])?);
-    taking.expect_right(list(alloc, &[9])?, list(alloc, &[9])?);
-    let copy = taking.copy(alloc)?;
-    assert!(rt; !copy.complete(&store));
-    store.bury(alloc, file(3))?;
-    assert!(rt; !copy.complete(&store));
-    store.bury(alloc, file(2))?;
-    assert!(rt; copy.complete(&store) && taking.complete(&store));
+    let is_so = waits(&mut taking, rt.alloc(), &mut store);
+    drop(taking);
+    drop(store);
+    assert!(rt; is_so?);
     Ok(())
+}
+
+/// Whether the left side keeps its first pledge, where another comes for it, and the right side has none.
+fn keeps_the_first(taking: &mut Taking, alloc: Global) -> Result<bool, Fail> {
+    expect_left(taking, alloc, &[1, 2], &[3])?;
+    let later = pledge(alloc, &[9], &[])?;
+    taking.keep(Taking::of(Some(later), None));
+    let Some(kept) = taking.left() else {
+        return Ok(false);
+    };
+    let files = [file(1), file(2)];
+    Ok(kept.manifest().as_slice() == files.as_slice() && taking.right().is_none())
 }
 
 #[test]
 fn a_later_pledge_of_a_side_is_dropped(rt: HostRuntime) -> Result<(), Fail> {
-    let alloc = rt.alloc();
     let mut taking = Taking::new();
-    taking.expect_left(list(alloc, &[1, 2])?, list(alloc, &[3])?);
-    let later = Pledge::new(list(alloc, &[9])?, list(alloc, &[])?);
-    taking.keep(Taking::of(Some(later), None));
-    let kept = taking.left().expect(&rt, "the left side has pledged");
-    assert_eq!(rt; kept.manifest().as_slice(), [file(1), file(2)].as_slice());
-    assert!(rt; taking.right().is_none());
+    let is_so = keeps_the_first(&mut taking, rt.alloc());
+    drop(taking);
+    assert!(rt; is_so?);
     Ok(())
 }
