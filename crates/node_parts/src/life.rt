@@ -61,13 +61,12 @@ impl Node {
     pub fn copy(&self, alloc: Global) -> Result<Node, OutOfMemory>
         ensures { IfOk result (λ copy. (s : State) → Stands self.now s → Stands copy s) }
     {
-        let seat = self.seat.copy(alloc)?;
-        let left_gate = copy_of(alloc, &self.left_gate)?;
-        let right_gate = copy_of(alloc, &self.right_gate)?;
-        let known = self.known.copy(alloc)?;
-        let store = self.store.copy(alloc)?;
-        let past = self.past.copy(alloc)?;
         let waiting = self.waiting.as_slice().to_vec(alloc)?;
+        let known = self.known.copy(alloc)?;
+        let past = self.past.copy(alloc)?;
+        let store = self.store.copy(alloc)?;
+        let (left_gate, right_gate) = both_of(alloc, &self.left_gate, &self.right_gate)?;
+        let seat = self.seat.copy(alloc)?;
         Ok(Node {
             me: self.me,
             seat,
@@ -79,6 +78,18 @@ impl Node {
             waiting,
         })
     }
+}
+
+fn both_of(
+    alloc: Global,
+    left: &Option<Lease>,
+    right: &Option<Lease>,
+) -> Result<(Option<Lease>, Option<Lease>), OutOfMemory>
+    ensures { IfOk result (λ copies. (copies.0 ≡ left.now) × (copies.1 ≡ right.now)) }
+{
+    let left = copy_of(alloc, left)?;
+    let right = copy_of(alloc, right)?;
+    Ok((left, right))
 }
 
 fn copy_of(alloc: Global, lease: &Option<Lease>) -> Result<Option<Lease>, OutOfMemory>
