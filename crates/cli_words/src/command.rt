@@ -13,6 +13,7 @@ use crate::limits::{
 };
 use crate::mode::WordFault;
 use crate::modes::MODES;
+use clap::builder::ValueParser;
 use clap::{Arg, ArgAction, Command, value_parser};
 use std::alloc::Global;
 
@@ -26,16 +27,36 @@ fn mode_arg<'a>(alloc: Global) -> Arg<'a>
         .value_parser(MODES.as_slice())
 }
 
-/// An option whose value is a number from the least to the most, with the text that stands where it is not given.
-fn u32_arg<'a>(alloc: Global, name: &'a str, least: u32, most: u32, otherwise: &'a str) -> Arg<'a>
-    ensures rule { rule_of result ≡ option_rule name.now (Signed (pos least) (pos most)) otherwise.now }
+/// The numbers from the least to the most.
+fn u32_values<'a>(least: u32, most: u32) -> ValueParser<'a>
+    ensures { result ≡ Signed (pos least) (pos most) }
+{
+    value_parser!(u32).range(i64::from(least)..=i64::from(most))
+}
+
+/// An option with one of these values, and the text that stands where it is not given.
+fn option_arg<'a>(
+    alloc: Global,
+    name: &'a str,
+    values: ValueParser<'a>,
+    otherwise: &'a str,
+) -> Arg<'a>
+    ensures rule { rule_of result ≡ option_rule name.now values.entry otherwise.now }
     ensures local { result.global ≡ false }
 {
     Arg::new(alloc, name)
         .long(name)
         .action(ArgAction::Set)
-        .value_parser(value_parser!(u32).range(i64::from(least)..=i64::from(most)))
+        .value_parser(values)
         .default_value(otherwise)
+}
+
+/// An option whose value is a number from the least to the most, with the text that stands where it is not given.
+fn u32_arg<'a>(alloc: Global, name: &'a str, least: u32, most: u32, otherwise: &'a str) -> Arg<'a>
+    ensures rule { rule_of result ≡ option_rule name.now (Signed (pos least) (pos most)) otherwise.now }
+    ensures local { result.global ≡ false }
+{
+    option_arg(alloc, name, u32_values(least, most), otherwise)
 }
 
 /// An option whose value is any number below 2^64.
@@ -43,11 +64,7 @@ fn u64_arg<'a>(alloc: Global, name: &'a str, otherwise: &'a str) -> Arg<'a>
     ensures rule { rule_of result ≡ option_rule name.now (Unsigned 0 18446744073709551615) otherwise.now }
     ensures local { result.global ≡ false }
 {
-    Arg::new(alloc, name)
-        .long(name)
-        .action(ArgAction::Set)
-        .value_parser(value_parser!(u64))
-        .default_value(otherwise)
+    option_arg(alloc, name, value_parser!(u64), otherwise)
 }
 
 /// Whether a trace is that of a run by threads.
