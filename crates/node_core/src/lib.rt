@@ -8,6 +8,7 @@ mod joins;
 mod laws;
 mod node;
 mod request;
+mod sends;
 
 pub use input::{Input, Output};
 pub use node::Node;

@@ -9,14 +9,15 @@ ghost use Rattle.overlay_rules.specs.State.{State};
 ghost use Rattle.overlay_rules.specs.Outcome.{becomes, before, to_each};
 ghost use Rattle.overlay_rules.specs.Roots.{on_insert as on_insert_of, inserted, with_ask};
 ghost use Rattle.past_core.specs.Inserts.{said, accepted_note, files_where, pending_of, with_added};
-ghost use Rattle.node_parts.specs.Change.{waited, files_after};
+ghost use Rattle.node_parts.specs.Change.{waited, files_after, pending_after};
 ghost use Rattle.node_parts.specs.Plans.{Plans};
 ghost use Rattle.node_core.specs.Rows.{IsRow};
 ghost use Rattle.node_core.specs.Replies.{IsReply};
 
 use crate::request::{Request, Served};
+use crate::sends::sent_to_each;
 use file_store::Put;
-use node_parts::{Change, Node, PastChange, Prepared, StoreChange, one_more, send_to_each};
+use node_parts::{Change, Node, PastChange, Prepared, StoreChange, one_more};
 use overlay_rules::{Asked, Pending};
 use past_core::{InsertWhat, what_insert};
 use ring_math::{Bytes, FileId, Id, Ids, OutOfMemory, key_of};
@@ -85,14 +86,45 @@ fn replicating(
         (to_each targets (Replicate request.now.origin request.now.number file.now bytes.now)) []))) }
 {
     let Kept { store, notes } = kept;
+    let messages = replicas_asked(alloc, request, file, bytes, targets.as_slice())?;
+    let past = awaiting(alloc, request, file, targets)?;
+    let change = Change::files(alloc, store, past, request.wait)?;
+    Ok(Prepared {
+        messages,
+        notes,
+        change,
+    })
+}
+
+/// Each of these is asked to hold the file.
+fn replicas_asked(
+    alloc: Global,
+    request: &Request,
+    file: &FileId,
+    bytes: &Bytes,
+    targets: &[Id],
+) -> Result<Sends, OutOfMemory>
+    ensures { IfOk result (λ messages. messages ≡ to_each targets.now (Replicate request.now.origin request.now.number file.now bytes.now)) }
+{
     let message = Message::Replicate {
         origin: request.origin,
         number: request.number,
         file: *file,
         bytes: bytes.copy(alloc)?,
     };
-    let mut messages = Sends::new(alloc);
-    send_to_each(alloc, &mut messages, targets.as_slice(), &message)?;
+    sent_to_each(alloc, targets, message)
+}
+
+/// The insert waits for these.
+fn awaiting(
+    alloc: Global,
+    request: &Request,
+    file: &FileId,
+    targets: Ids,
+) -> Result<PastChange, OutOfMemory>
+    ensures { (asks : List Pending) → IfOk result (λ past. pending_after past asks ≡ with_ask asks
+        (record { origin = request.now.origin; number = request.now.number; file = file.now; targets = targets; awaited = targets })) }
+{
     let awaited = targets.copy(alloc)?;
     let pending = Pending {
         origin: request.origin,
@@ -101,13 +133,7 @@ fn replicating(
         targets,
         awaited,
     };
-    let past = PastChange::Add(Box::new(alloc, pending)?);
-    let change = Change::files(alloc, store, past, request.wait)?;
-    Ok(Prepared {
-        messages,
-        notes,
-        change,
-    })
+    Ok(PastChange::Add(Box::new(alloc, pending)?))
 }
 
 /// The reply, where it is known at once.

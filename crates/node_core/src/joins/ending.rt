@@ -25,7 +25,9 @@ fn released(alloc: Global, halted: &Halted) -> Result<Sends, OutOfMemory>
             let release = Message::Release {
                 attempt: halted.attempt,
             };
-            sent_to_both(alloc, neighbours.0, neighbours.1, &release)
+            let messages = sent_to_both(alloc, neighbours.0, neighbours.1, &release);
+            drop(release);
+            messages
         }
         None => Ok(Sends::new(alloc)),
     }

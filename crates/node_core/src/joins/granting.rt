@@ -1,10 +1,13 @@
 //! What a lease hands over: the lists of the joiner's gap, and its files.
 
-ghost use Rattle.std.specs.Prelude.{◌≡◌, ◌++◌, IfOk, OnOk, List, ℕ};
+ghost use Rattle.std.specs.Prelude.{◌≡◌, ◌++◌, IfOk, OnOk, List, ℕ, filter, not};
 ghost use Rattle.coverage.specs.GapFiles.{lists_in_gap as lists_in_gap_of};
 ghost use Rattle.overlay_rules.specs.Gates.{gate_on, is_older};
-ghost use Rattle.overlay_rules.specs.Gatekeeper.{handovers, granted as granted_of, opened, cleared, unless_lease};
-ghost use Rattle.node_parts.specs.Change.{gate_after};
+ghost use Rattle.overlay_rules.specs.Gatekeeper.{handovers, granted as granted_of, opened, cleared, unless_lease, with_lease, is_left_to};
+ghost use Rattle.overlay_rules.specs.Roots.{replied_each};
+ghost use Rattle.overlay_rules.specs.State.{State};
+ghost use Rattle.wire_msg.specs.declared.reply.Reply.TheVariants.{Busy};
+ghost use Rattle.node_parts.specs.Change.{changed, gate_after};
 ghost use Rattle.node_parts.specs.Seen.{seen};
 ghost use Rattle.node_parts.specs.Plans.{Plans};
 
@@ -119,19 +122,70 @@ pub(crate) fn open(
         (lists_in_gap_of reach.now gate.now.joiner node.now.store.files))) }
 {
     let lists = lists_in_gap(alloc, &node.store, reach, gate.joiner)?;
-    let asks = node.past.in_gap(alloc, reach, gate.joiner)?;
-    let mut messages = granted(alloc, &node.store, gate.joiner, gate.attempt, &lists)?;
+    open_with(node, alloc, reach, gate, &lists)
+}
+
+/// The gates are opened with these lists; then the inserts that wait in the joiner's gap are over.
+fn open_with(
+    node: &Node,
+    alloc: Global,
+    reach: &Reach,
+    gate: &Gate,
+    lists: &Pledge,
+) -> Result<Prepared, OutOfMemory>
+    ensures { (known : List ℕ) → IfOk result (λ p. Plans (seen node.now known) p
+        (opened (cleared (seen node.now known) gate.now.joiner gate.now.attempt) reach.now gate.now lists.now)) }
+{
+    let mut messages = granted(alloc, &node.store, gate.joiner, gate.attempt, lists)?;
     let mut notes = Notes::new(alloc);
+    reply_busy(node, alloc, reach, gate.joiner, &mut messages, &mut notes)?;
+    let change = gates_set(node, alloc, reach, gate, lists)?;
+    Ok(Prepared {
+        messages,
+        notes,
+        change,
+    })
+}
+
+/// The inserts that wait in the joiner's gap are replied Busy, behind what is sent and noted already.
+fn reply_busy(
+    node: &Node,
+    alloc: Global,
+    reach: &Reach,
+    joiner: Id,
+    messages: &mut Sends,
+    notes: &mut Notes,
+) -> Result<(), OutOfMemory>
+    ensures messages { (s : State) → OnOk result (messages.new ≡ messages.old
+        ++ (replied_each s (Busy node.now.me joiner) (filter (is_left_to reach.now joiner) node.now.past.asks)).sends) }
+    ensures notes { (s : State) → OnOk result (notes.new ≡ notes.old
+        ++ (replied_each s (Busy node.now.me joiner) (filter (is_left_to reach.now joiner) node.now.past.asks)).notes) }
+{
+    let asks = node.past.in_gap(alloc, reach, joiner)?;
     let busy = Reply::Busy {
         node: node.me,
-        joiner: gate.joiner,
+        joiner,
     };
-    reply_each(alloc, &asks, &busy, &mut messages, &mut notes)?;
-    let on_left = node.me == gate.right;
-    let left_gate = set_gate(alloc, on_left, gate, &lists, &node.left_gate)?;
-    let on_right = node.me == gate.left;
-    let right_gate = set_gate(alloc, on_right, gate, &lists, &node.right_gate)?;
+    reply_each(alloc, &asks, &busy, messages, notes)
+}
+
+/// The gates of the sides that are asked for are set with these lists, and what waits in the joiner's gap is over.
+fn gates_set(
+    node: &Node,
+    alloc: Global,
+    reach: &Reach,
+    gate: &Gate,
+    lists: &Pledge,
+) -> Result<Change, OutOfMemory>
+    ensures { (known : List ℕ) → IfOk result (λ change. changed change (seen node.now known) ≡
+        record (with_lease (cleared (seen node.now known) gate.now.joiner gate.now.attempt) gate.now lists.now)
+        { pending = filter (λ p. not (is_left_to reach.now gate.now.joiner p)) node.now.past.asks }) }
+{
     let gap = Box::new(alloc, *reach)?;
+    let on_left = node.me == gate.right;
+    let left_gate = set_gate(alloc, on_left, gate, lists, &node.left_gate)?;
+    let on_right = node.me == gate.left;
+    let right_gate = set_gate(alloc, on_right, gate, lists, &node.right_gate)?;
     let rest = Rest {
         seat: SeatChange::Keep,
         left_gate,
@@ -143,10 +197,5 @@ pub(crate) fn open(
             joiner: gate.joiner,
         },
     };
-    let change = Change::of(alloc, rest, Wait::Keep)?;
-    Ok(Prepared {
-        messages,
-        notes,
-        change,
-    })
+    Change::of(alloc, rest, Wait::Keep)
 }

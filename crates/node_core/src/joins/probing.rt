@@ -1,17 +1,19 @@
 //! A joiner learns who its neighbours are: the answer to its request, probes, and the answers to them.
 
 ghost use Rattle.std.specs.Prelude.{◌≡◌, IfOk, List, ℕ};
+ghost use Rattle.wire_msg.specs.Words.{LeaseRequest};
 ghost use Rattle.overlay_rules.specs.State.{State};
+ghost use Rattle.overlay_rules.specs.Outcome.{to_both};
 ghost use Rattle.overlay_rules.specs.Joining.{on_join_reply as on_join_reply_of, on_probe_reply as on_probe_reply_of};
 ghost use Rattle.overlay_rules.specs.Gatekeeper.{on_probe as on_probe_of};
 ghost use Rattle.node_parts.specs.Seen.{seen, Shows};
+ghost use Rattle.node_parts.specs.Change.{changed};
 ghost use Rattle.node_parts.specs.Plans.{Plans};
-ghost use Rattle.node_core.specs.Asked.{probes_sent, leases_asked};
+ghost use Rattle.node_core.specs.Asked.{gone_on as gone_on_of, probes_sent, leases_asked};
 
+use crate::sends::sent_to_each;
 use join_core::{Joiner, ProbeStep};
-use node_parts::{
-    Change, Learn, Node, Prepared, first_left, first_right, leaves_of, send_to_each, sent_to_both,
-};
+use node_parts::{Change, Learn, Node, Prepared, first_left, first_right, leaves_of, sent_to_both};
 use ring_math::{Id, Ids, OutOfMemory};
 use std::alloc::Global;
 use wire_msg::{Message, Notes, Sends};
@@ -85,18 +87,24 @@ fn probing(
 ) -> Result<Prepared, OutOfMemory>
     ensures { (s : State) → IfOk result (λ p. Plans s p (probes_sent s joiner members.now probes.now)) }
 {
-    let mut messages = Sends::new(alloc);
     let probe = Message::Probe {
         attempt: joiner.attempt(),
     };
-    send_to_each(alloc, &mut messages, probes, &probe)?;
-    let learnt = members.copy(alloc)?;
-    let change = Change::joins(alloc, joiner, Learn::All(learnt))?;
+    let messages = sent_to_each(alloc, probes, probe)?;
+    let change = gone_on(alloc, joiner, members)?;
     Ok(Prepared {
         messages,
         notes: Notes::new(alloc),
         change,
     })
+}
+
+/// The joiner goes on to this, and these members are learnt.
+fn gone_on(alloc: Global, joiner: Joiner, members: &Ids) -> Result<Change, OutOfMemory>
+    ensures { (s : State) → IfOk result (λ change. changed change s ≡ gone_on_of s joiner members.now) }
+{
+    let learnt = members.copy(alloc)?;
+    Change::joins(alloc, joiner, Learn::All(learnt))
 }
 
 /// A ProbeReply. Most come to a node that waits for none, so that is seen before anything is learnt from it.
@@ -157,17 +165,25 @@ fn leasing(
 ) -> Result<Prepared, OutOfMemory>
     ensures { (s : State) → IfOk result (λ p. Plans s p (leases_asked s joiner members.now attempt left right)) }
 {
-    let request = Message::LeaseRequest {
-        attempt,
-        left,
-        right,
-    };
-    let messages = sent_to_both(alloc, left, right, &request)?;
-    let learnt = members.copy(alloc)?;
-    let change = Change::joins(alloc, joiner, Learn::All(learnt))?;
+    let messages = lease_requests(alloc, attempt, left, right)?;
+    let change = gone_on(alloc, joiner, members)?;
     Ok(Prepared {
         messages,
         notes: Notes::new(alloc),
         change,
     })
+}
+
+/// These two are asked for their leases.
+fn lease_requests(alloc: Global, attempt: u32, left: Id, right: Id) -> Result<Sends, OutOfMemory>
+    ensures { IfOk result (λ messages. messages ≡ to_both left right (LeaseRequest attempt left right)) }
+{
+    let request = Message::LeaseRequest {
+        attempt,
+        left,
+        right,
+    };
+    let messages = sent_to_both(alloc, left, right, &request);
+    drop(request);
+    messages
 }
