@@ -1,11 +1,13 @@
 //! Grants, and the ready test: a join is done once the lists of both neighbours came, and all that they name.
 
-ghost use Rattle.std.specs.Prelude.{◌≡◌, IfOk, List, ℕ, true, ◌&&◌, ◌||◌, ◌==◌, if◌then◌else◌, Some, None, is_none, option_copied};
+ghost use Rattle.std.specs.Prelude.{◌≡◌, ◌++◌, IfOk, List, ℕ, true, ◌&&◌, ◌||◌, ◌==◌, if◌then◌else◌, Some, None, is_none, option_copied};
 ghost use Rattle.ring_math.specs.declared.file.Held.{Held};
 ghost use Rattle.ring_math.specs.Files.{with_slot, has_room, buried_all};
+ghost use Rattle.ring_math.specs.Sides.{leaves};
+ghost use Rattle.wire_msg.specs.Words.{Announce, Confirm};
 ghost use Rattle.overlay_rules.specs.State.{State, Leasing};
 ghost use Rattle.overlay_rules.specs.Joining.{on_grant as on_grant_of, kept_first};
-ghost use Rattle.overlay_rules.specs.Outcome.{nothing};
+ghost use Rattle.overlay_rules.specs.Outcome.{nothing, to_both, to_each};
 ghost use Rattle.overlay_rules.specs.ReadyTest.{readied as readied_of, ready_test as ready_test_of};
 ghost use Rattle.overlay_rules.specs.Replicas.{holding};
 ghost use Rattle.overlay_rules.specs.Step.{on_announce as on_announce_of};
@@ -24,7 +26,7 @@ use node_parts::{
 use replica_handover::{Pledge, Taking};
 use ring_math::{Bytes, FileId, FileIds, Id, OutOfMemory};
 use std::alloc::Global;
-use wire_msg::{Answer, Message};
+use wire_msg::{Answer, Message, Sends};
 
 /// An Announce: the sender is learnt.
 pub(crate) fn on_announce(alloc: Global, from: Id) -> Result<Prepared, OutOfMemory>
@@ -47,9 +49,7 @@ fn readied(
     ensures { (known : List ℕ) → Shows node.now known → IfOk result (λ p. Plans (seen node.now known) p
         (readied_of (files_set store (seen node.now known)) attempt number left right)) }
 {
-    let mut messages = sent_to_both(alloc, left, right, &Message::Confirm { attempt })?;
-    let leaves = node.leaves(alloc)?;
-    send_to_each(alloc, &mut messages, leaves.as_slice(), &Message::Announce)?;
+    let messages = said_of_join(node, alloc, attempt, left, right)?;
     let seat = SeatChange::Ready {
         attempt,
         left,
@@ -58,6 +58,33 @@ fn readied(
     let change = Change::seats_and_files(alloc, seat, store)?;
     let answer = Answer::Joined { left, right };
     Prepared::closing(alloc, change, messages, number, answer)
+}
+
+/// Both leases are confirmed, and the leaves are told.
+fn said_of_join(
+    node: &Node,
+    alloc: Global,
+    attempt: u32,
+    left: Id,
+    right: Id,
+) -> Result<Sends, OutOfMemory>
+    ensures { (known : List ℕ) → Shows node.now known → IfOk result (λ messages. messages ≡
+        to_both left right (Confirm attempt) ++ to_each (leaves node.now.me known) Announce) }
+{
+    let leaves = node.leaves(alloc)?;
+    let mut messages = confirmed(alloc, attempt, left, right)?;
+    send_to_each(alloc, &mut messages, leaves.as_slice(), &Message::Announce)?;
+    Ok(messages)
+}
+
+/// Both leases are confirmed.
+fn confirmed(alloc: Global, attempt: u32, left: Id, right: Id) -> Result<Sends, OutOfMemory>
+    ensures { IfOk result (λ messages. messages ≡ to_both left right (Confirm attempt)) }
+{
+    let confirm = Message::Confirm { attempt };
+    let messages = sent_to_both(alloc, left, right, &confirm);
+    drop(confirm);
+    messages
 }
 
 /// Whether a side has handed over, and the store will have all of it once this file is put.

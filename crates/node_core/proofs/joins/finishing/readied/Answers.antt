@@ -1,4 +1,4 @@
-use Rattle.std.proofs.Common.{ℕ, ◌++◌, ◌∷◌, [], List, IfOk, ap, ◌∙◌, subst}
+use Rattle.std.proofs.Common.{◌∷◌, [], List, IfOk, subst}
 use Rattle.overlay_rules.specs.State.{State}
 use Rattle.overlay_rules.specs.State as phase
 use Rattle.overlay_rules.specs.Outcome.{Sent, becomes}
@@ -6,8 +6,6 @@ use Rattle.node_parts.specs.Seen.{seen}
 use Rattle.node_parts.specs.Plans.{Plans}
 use Rattle.wire_msg.specs.declared.note.Note.TheVariants as note
 use Rattle.wire_msg.specs.declared.reply.Answer.TheVariants as answer
-use Rattle.wire_msg.specs.Words.{Confirm, Announce}
-use Rattle.overlay_rules.specs.Outcome.{to_each, to_both}
 use Rattle.node_parts.specs.Change.{files_after}
 use Rattle.node_core.proofs.joins.finishing.readied.Goals as goal
 
@@ -17,7 +15,5 @@ returns c = λ known h.
     let a = c.args.attempt in
     let t : State = record s { phase = phase.Ready a c.args.left c.args.right; files = files_after c.args.store s.files } in
     subst (λ (ms : List Sent). IfOk c.closing.result (λ p. Plans s p (becomes t ms (note.Closed c.args.number (answer.Joined c.args.left c.args.right) ∷ []))))
-    (c.in_ok-send_to_each.ensures
-    ∙ ap (λ (ms : List Sent). ms ++ to_each c.as_slice.result.now Announce) c.in_ok-messages.ensures
-    ∙ ap (λ (ys : List ℕ). to_both c.args.left c.args.right (Confirm a) ++ to_each ys Announce) (c.as_slice.ensures.value ∙ c.in_ok-leaves.ensures known h))
+    (c.in_ok-messages.ensures known h)
     (c.closing.ensures s t (c.in_ok-change.ensures s))
