@@ -183,10 +183,10 @@ impl Entries {
         event.said_law();
         let event = CompactEvent::of(event, *self.lists.sent.allocator())?;
         let messages = sends.into_items();
-        let notes = notes.into_items();
+        let mut notes = notes.into_items();
         self.lists.reserve(messages.len(), notes.len())?;
         send_all(&mut self.lists.sent, stamp, sender, messages);
-        move_all(&mut self.lists.notes, notes);
+        move_all(&mut self.lists.notes, &mut notes);
         self.lists.close(event);
         Ok(())
     }
@@ -201,10 +201,26 @@ impl Entries {
             messages,
             notes,
         } = item;
+        let mut messages = messages.into_items();
+        let mut notes = notes.into_items();
+        self.append(event, &mut messages, &mut notes)
+    }
+
+    /// One more entry: an event, with all messages and notes of these lists, which are empty afterwards and keep their room: so
+    /// who adds many entries needs no memory for the lists of each. After `OutOfMemory` there is none more.
+    pub fn append(
+        &mut self,
+        event: Event,
+        messages: &mut Vec<Envelope>,
+        notes: &mut Vec<Note>,
+    ) -> Result<(), OutOfMemory>
+        ensures ok { OnOk result (self.new ≡ self.old ++ record { event = event; messages = map plain_envelope messages.old.items; notes = notes.old.items } ∷ []) }
+        ensures err { OnErr result (self.new ≡ self.old) }
+        ensures messages { OnOk result (messages.new.items ≡ []) }
+        ensures notes { OnOk result (notes.new.items ≡ []) }
+    {
         event.said_law();
         let event = CompactEvent::of(event, *self.lists.sent.allocator())?;
-        let messages = messages.into_items();
-        let notes = notes.into_items();
         self.lists.reserve(messages.len(), notes.len())?;
         move_all(&mut self.lists.sent, messages);
         move_all(&mut self.lists.notes, notes);

@@ -131,8 +131,9 @@ fn between<T>(items: &[T], start: usize, end: usize) -> &[T]
     &items[start..end]
 }
 
-/// Adds each message in an envelope from this sender, with this stamp. The messages are moved, and not copied.
-pub(crate) fn send_all(sent: &mut Vec<Envelope>, stamp: u64, sender: Id, messages: Vec<Outgoing>)
+/// Adds each message, in an envelope from this sender, with this stamp, to a list that has room for them. The messages are moved,
+/// and not copied.
+pub fn send_all(sent: &mut Vec<Envelope>, stamp: u64, sender: Id, messages: Vec<Outgoing>)
     requires { vec_len sent.old + vec_len messages ≤ vec_capacity sent.old }
     ensures items { map plain_envelope sent.new.items ≡ map plain_envelope sent.old.items ++ map (enveloped stamp sender) (map plain_sent messages.items) }
 {
@@ -146,11 +147,11 @@ pub(crate) fn send_all(sent: &mut Vec<Envelope>, stamp: u64, sender: Id, message
     }
 }
 
-/// Adds items for which there is room.
-pub(crate) fn move_all<T: Drop>(to: &mut Vec<T>, from: Vec<T>)
-    requires { vec_len to.old + vec_len from ≤ vec_capacity to.old }
-    ensures items { to.new.items ≡ to.old.items ++ from.items }
+/// Moves items, for which there is room, to the end of another list.
+pub(crate) fn move_all<T: Drop>(to: &mut Vec<T>, from: &mut Vec<T>)
+    requires { vec_len to.old + vec_len from.old ≤ vec_capacity to.old }
+    ensures items { to.new.items ≡ to.old.items ++ from.old.items }
+    ensures empty { from.new.items ≡ [] }
 {
-    let mut from = from;
-    let _ = to.append(&mut from);
+    let _ = to.append(from);
 }

@@ -89,6 +89,10 @@ impl Notes {
         ensures ok { OnOk result (self.new ≡ self.old ++ item ∷ []) }
         ensures err { OnErr result (self.new ≡ self.old) }
     {
+        // Most steps note one thing or two, and a history keeps their notes: so at first there is room for two.
+        if self.items.is_empty() {
+            self.items.reserve_exact(2)?;
+        }
         self.items.push(item)?;
         Ok(())
     }

@@ -10,7 +10,7 @@ use Rattle.overlay_rules.proofs.Cut.{Adds, cut-adds, well-adds, entry_of_parts}
 use Rattle.overlay_rules.proofs.entry.Entries.add.Goals as goal
 
 -- the lists have the entry of the event, with its messages and notes
-adds : (c : goal.After-close) → Adds c.self.inside.lists c.close.new.self c.in_ok-event.event
+adds : (c : goal.After-drop-notes-2) → Adds c.self.inside.lists c.close.new.self c.in_ok-event.event
     (map (enveloped c.args.stamp c.args.sender) c.args.sends) c.args.notes
 adds c =
     let same = c.reserve.ensures.same in

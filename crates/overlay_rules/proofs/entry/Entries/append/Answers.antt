@@ -1,6 +1,6 @@
 use Rattle.std.proofs.Common.{◌∙◌, ◌++◌, ◌∷◌, [], List, sym, ap, subst, map, length}
 use Rattle.std.proofs.lemmas.List.{map-append}
-use Rattle.wire_msg.specs.Words.{Envelope, plain_envelope}
+use Rattle.wire_msg.specs.Words.{plain_envelope}
 use Rattle.wire_msg.specs.declared.message.Envelope.{Envelope as CodeEnvelope}
 use Rattle.wire_msg.specs.declared.note.Note.{Note}
 use Rattle.overlay_rules.specs.declared.entry.Event.{Event}
@@ -9,10 +9,11 @@ use Rattle.overlay_rules.specs.declared.flat.CompactEntry.{CompactEntry}
 use Rattle.overlay_rules.specs.Record.{IsSaidBy}
 use Rattle.overlay_rules.specs.Flat.{cut}
 use Rattle.overlay_rules.proofs.Cut.{Adds, cut-adds, well-adds, entry_of_parts}
-use Rattle.overlay_rules.proofs.entry.Entries.push.Goals as goal
+use Rattle.overlay_rules.proofs.entry.Entries.append.Goals as goal
 
 -- the lists have the entry
-adds : (c : goal.After-close) → Adds c.self.inside.lists c.close.new.self c.in_ok-event.event c.args.item.messages c.args.item.notes
+adds : (c : goal.After-close) → Adds c.self.inside.lists c.close.new.self c.in_ok-event.event (map plain_envelope c.args.messages.now.items)
+    c.args.notes.now.items
 adds c =
     let same = c.reserve.ensures.same in
     let last : CompactEntry =
@@ -20,20 +21,21 @@ adds c =
     record {
       entries = c.close.ensures.entries ∙ ap (λ (es : List CompactEntry). es ++ last ∷ []) same.entries;
       sent = ap (map plain_envelope) (c.close.ensures.sent ∙ c.move_all.ensures.items
-          ∙ ap (λ (ms : List CodeEnvelope). ms ++ c.into_items-messages.result.items) same.sent)
-          ∙ map-append plain_envelope c.self.inside.lists.sent.items c.into_items-messages.result.items
-          ∙ ap (λ (ms : List Envelope). map plain_envelope c.self.inside.lists.sent.items ++ ms) c.into_items-messages.ensures;
-      notes = c.close.ensures.notes ∙ c.move_all-2.ensures.items ∙ ap (λ (ns : List Note). ns ++ c.into_items-notes.result.items) same.notes
-          ∙ ap (λ (ns : List Note). c.self.inside.lists.notes.items ++ ns) c.into_items-notes.ensures;
+          ∙ ap (λ (ms : List CodeEnvelope). ms ++ c.args.messages.now.items) same.sent)
+          ∙ map-append plain_envelope c.self.inside.lists.sent.items c.args.messages.now.items;
+      notes = c.close.ensures.notes ∙ c.move_all-2.ensures.items ∙ ap (λ (ns : List Note). ns ++ c.args.notes.now.items) same.notes;
     }
 
 pub invariant_of-self-2 : goal.invariant_of-self-2
 invariant_of-self-2 c =
-    well-adds c.self.inside.lists c.close.new.self c.in_ok-event.event c.args.item.messages c.args.item.notes c.self.invariant (adds c)
+    well-adds c.self.inside.lists c.close.new.self c.in_ok-event.event (map plain_envelope c.args.messages.now.items) c.args.notes.now.items
+    c.self.invariant (adds c)
     (subst (λ (v : Event). IsSaidBy v) (sym c.in_ok-event.ensures) c.said_law.ensures)
 
 pub returns-clause-ok : goal.returns-clause-ok
 returns-clause-ok c =
-    cut-adds c.self.inside.lists c.close.new.self c.in_ok-event.event c.args.item.messages c.args.item.notes c.self.invariant (adds c)
-    ∙ ap (λ (v : Event). cut c.self.inside.lists ++ entry_of_parts v c.args.item.messages c.args.item.notes ∷ []) c.in_ok-event.ensures
-    ∙ ap (λ (es : List Entry). es ++ c.args.item ∷ []) c.self.view_is
+    cut-adds c.self.inside.lists c.close.new.self c.in_ok-event.event (map plain_envelope c.args.messages.now.items) c.args.notes.now.items
+    c.self.invariant (adds c)
+    ∙ ap (λ (v : Event). cut c.self.inside.lists ++ entry_of_parts v (map plain_envelope c.args.messages.now.items) c.args.notes.now.items ∷ [])
+    c.in_ok-event.ensures
+    ∙ ap (λ (es : List Entry). es ++ entry_of_parts c.args.event (map plain_envelope c.args.messages.now.items) c.args.notes.now.items ∷ []) c.self.view_is
