@@ -34,13 +34,13 @@ pub data Message : Type 0 where
 
 -- the code's order of parts saves memory, and means nothing
 abbrev pub plain : CodeMessage → Message
-plain (code.Lookup origin key number hops) = Lookup origin number key hops
+plain (code.Lookup hops number origin key) = Lookup origin number key hops
 plain (code.LookupReply number reply) = LookupReply number reply
 plain (code.Insert file copies hops number origin bytes) = Insert origin number hops file copies bytes
 plain (code.InsertReply number reply) = InsertReply number reply
-plain (code.Fetch origin number hops file) = Fetch origin number hops file
+plain (code.Fetch hops number origin file) = Fetch origin number hops file
 plain (code.FetchReply number reply) = FetchReply number reply
-plain (code.JoinRequest joiner attempt hops) = JoinRequest joiner attempt hops
+plain (code.JoinRequest hops attempt joiner) = JoinRequest joiner attempt hops
 plain (code.JoinReply attempt members) = JoinReply attempt members
 plain (code.JoinRefuse attempt why) = JoinRefuse attempt why
 plain (code.Probe attempt) = Probe attempt
@@ -53,8 +53,8 @@ plain (code.Release attempt) = Release attempt
 plain (code.Confirm attempt) = Confirm attempt
 plain code.Announce = Announce
 plain (code.Replicate file number origin bytes) = Replicate origin number file bytes
-plain (code.ReplicaAck origin number file) = ReplicaAck origin number file
-plain (code.Reclaim origin number hops file) = Reclaim origin number hops file
+plain (code.ReplicaAck number origin file) = ReplicaAck origin number file
+plain (code.Reclaim hops number origin file) = Reclaim origin number hops file
 plain (code.ReclaimReply number reply) = ReclaimReply number reply
 
 -- a message to a node

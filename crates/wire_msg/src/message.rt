@@ -7,7 +7,8 @@ use crate::reply::{Reply, Why};
 use ring_math::{Bytes, FileId, FileIds, Id, Ids, OutOfMemory};
 use std::alloc::Global;
 
-// A record keeps each message that was sent, so the fields stand in an order that leaves no room between them.
+// A record keeps each message that was sent, so the fields stand in an order that leaves no room between them, and small ones stand
+// first: what lies unused before a field is moved with it.
 const _: () = prove!(size_of::<Message>() == 64);
 
 const _: () = prove!(size_of::<Envelope>() == 112);
@@ -16,10 +17,10 @@ const _: () = prove!(size_of::<Envelope>() == 112);
 #[derive(Drop)]
 pub enum Message {
     Lookup {
+        hops: u16,
+        number: u64,
         origin: Id,
         key: Id,
-        number: u64,
-        hops: u16,
     },
     LookupReply {
         number: u64,
@@ -38,9 +39,9 @@ pub enum Message {
         reply: Reply,
     },
     Fetch {
-        origin: Id,
-        number: u64,
         hops: u16,
+        number: u64,
+        origin: Id,
         file: FileId,
     },
     FetchReply {
@@ -48,9 +49,9 @@ pub enum Message {
         reply: Reply,
     },
     JoinRequest {
-        joiner: Id,
-        attempt: u32,
         hops: u16,
+        attempt: u32,
+        joiner: Id,
     },
     /// The node that covers the joiner's identifier, and its leaves.
     JoinReply {
@@ -106,14 +107,14 @@ pub enum Message {
         bytes: Bytes,
     },
     ReplicaAck {
-        origin: Id,
         number: u64,
+        origin: Id,
         file: FileId,
     },
     Reclaim {
-        origin: Id,
-        number: u64,
         hops: u16,
+        number: u64,
+        origin: Id,
         file: FileId,
     },
     ReclaimReply {
