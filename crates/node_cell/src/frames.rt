@@ -3,15 +3,16 @@
 ghost use Rattle.std.specs.Prelude.{◌≡◌, ◌++◌, IfOk, map, vec_len, ◌+◌, ◌≤◌, All};
 ghost use Rattle.std.specs.VecDeque.{deque_len, deque_capacity};
 ghost use Rattle.overlay_rules.specs.Record.{enveloped};
-ghost use Rattle.wire_msg.specs.Words.{plain_envelope, plain_sent};
+ghost use Rattle.wire_msg.specs.Words.{plain_envelope};
 ghost use Rattle.node_cell.specs.Cell.{frame_of};
 ghost use Rattle.node_cell.specs.Kept.{HasFrame};
 
+use overlay_rules::send_all;
 use ring_math::{Id, OutOfMemory};
 use std::alloc::Global;
 use std::collections::VecDeque;
 use wire_codec::encode;
-use wire_msg::{Envelope, Envelopes, Frame, Outgoing, Sends};
+use wire_msg::{Envelope, Envelopes, Frame, Sends};
 
 /// A frame, and whom it is for.
 #[derive(Drop)]
@@ -52,28 +53,11 @@ fn envelopes_of(
 ) -> Result<Envelopes, OutOfMemory>
     ensures { IfOk result (λ envelopes. envelopes ≡ map (enveloped stamp sender) sends) }
 {
-    let envelopes = each_in_envelope(alloc, stamp, sender, sends.into_items())?;
+    let messages = sends.into_items();
+    // A history keeps them, so there is room for them alone.
+    let mut envelopes = Vec::with_capacity(alloc, messages.len())?;
+    send_all(&mut envelopes, stamp, sender, messages);
     Ok(Envelopes::of(envelopes))
-}
-
-fn each_in_envelope(
-    alloc: Global,
-    stamp: u64,
-    sender: Id,
-    messages: Vec<Outgoing>,
-) -> Result<Vec<Envelope>, OutOfMemory>
-    ensures { IfOk result (λ envelopes. map plain_envelope envelopes.items ≡ map (enveloped stamp sender) (map plain_sent messages.items)) }
-{
-    let envelopes = messages
-        .into_iter()
-        .map(|sent| Envelope {
-            sender,
-            receiver: sent.receiver,
-            stamp,
-            message: sent.message,
-        })
-        .collect(alloc)?;
-    Ok(envelopes)
 }
 
 /// The frame of each envelope, in this order.

@@ -1,10 +1,10 @@
 //! What taking in an input will change, and the entry and the frames that go with it.
 
-ghost use Rattle.std.specs.Prelude.{◌≡◌, ◌<◌, ◌≤◌, ◌+◌, ◌++◌, ◌∷◌, [], suc, max, IfOk, IfErr, OnOk, vec_len, vec_capacity};
+ghost use Rattle.std.specs.Prelude.{◌≡◌, ◌<◌, ◌≤◌, ◌+◌, ◌++◌, ◌∷◌, [], max, IfOk, IfErr, OnOk, vec_len, vec_capacity};
 ghost use Rattle.std.specs.VecDeque.{deque_len, deque_capacity};
 ghost use Rattle.overlay_rules.specs.State.{State};
 ghost use Rattle.overlay_rules.specs.Step.{step};
-ghost use Rattle.weave_laws.specs.Cells.{input_of, input_stamp};
+ghost use Rattle.weave_laws.specs.Cells.{input_of, input_stamp, stamp_after};
 ghost use Rattle.node_parts.specs.Change.{changed};
 ghost use Rattle.node_parts.specs.Fits.{Fits};
 ghost use Rattle.node_parts.specs.Plans.{Plans};
@@ -43,8 +43,8 @@ pub(crate) fn plan(
     ensures me { node.new.me ≡ node.old.me }
     ensures stand { (s : State) → Stands node.old s → Stands node.new s }
     ensures fits { IfOk result (λ r. Fits node.new r.change) }
-    ensures stamp { IfOk result (λ r. r.entry.stamp ≡ suc (max last (input_stamp (plain_input_of input)))) }
-    ensures planned { (s : State) → Stands node.old s → IfOk result (IsPlanned node.old.me s (suc (max last (input_stamp (plain_input_of input)))) (plain_input_of input)) }
+    ensures stamp { IfOk result (λ r. r.entry.stamp ≡ stamp_after last (plain_input_of input)) }
+    ensures planned { (s : State) → Stands node.old s → IfOk result (IsPlanned node.old.me s (stamp_after last (plain_input_of input)) (plain_input_of input)) }
     ensures in_time { OnOk result (max last (input_stamp (plain_input_of input)) < LAST_STAMP) }
     ensures due { IfErr result (IsDueAt last (plain_input_of input)) }
 {
@@ -99,8 +99,8 @@ pub(crate) fn plan_with_room(
     ensures fits { IfOk result (λ r. Fits node.new r.change) }
     ensures entry { OnOk result (vec_len history.new < vec_capacity history.new) }
     ensures frames { IfOk result (λ r. deque_len unsent.new + vec_len r.frames ≤ deque_capacity unsent.new) }
-    ensures stamp { IfOk result (λ r. r.entry.stamp ≡ suc (max last (input_stamp (plain_input_of input)))) }
-    ensures planned { (s : State) → Stands node.old s → IfOk result (IsPlanned node.old.me s (suc (max last (input_stamp (plain_input_of input)))) (plain_input_of input)) }
+    ensures stamp { IfOk result (λ r. r.entry.stamp ≡ stamp_after last (plain_input_of input)) }
+    ensures planned { (s : State) → Stands node.old s → IfOk result (IsPlanned node.old.me s (stamp_after last (plain_input_of input)) (plain_input_of input)) }
     ensures in_time { OnOk result (max last (input_stamp (plain_input_of input)) < LAST_STAMP) }
     ensures due { IfErr result (IsDueAt last (plain_input_of input)) }
 {

@@ -1,12 +1,12 @@
 -- A history of a cell grows at its end, entry by entry, and is the one that its inputs give.
-use Rattle.std.proofs.Common.{◌≡◌, suc, max, Bool, List, [], ◌∷◌, ◌++◌, map, All, refl, ap, ◌∙◌, arith}
+use Rattle.std.proofs.Common.{◌≡◌, Bool, List, [], ◌∷◌, ◌++◌, map, All, refl, ap, ◌∙◌, arith}
 use Rattle.std.proofs.lemmas.List.Elements.{All-head, All-tail, All-push}
 use Rattle.ring_math.specs.Names.{Id, Stamp}
 use Rattle.wire_msg.specs.Words.{Envelope}
 use Rattle.wire_msg.specs.declared.note.Note.{Note}
 use Rattle.overlay_rules.specs.State.{State, start}
 use Rattle.overlay_rules.specs.Step.{step}
-use Rattle.weave_laws.specs.Cells.{CellInput, CellEntry, input_stamp, input_of, IsFor, stepped, replay, AreStampedAfter}
+use Rattle.weave_laws.specs.Cells.{CellInput, CellEntry, input_of, stamp_after, IsFor, stepped, replay, AreStampedAfter}
 use Rattle.weave_laws.specs.Cells.{last_stamp, IsStep, AreSteps, IsCellHistory}
 use Rattle.weave_laws.specs.Given.{entry_stamped, next_entry, history_from, history_of}
 use Rattle.weave_laws.specs.Numbers.{IsNumberedAfter, NumbersRise}
@@ -26,7 +26,7 @@ steps-push x s [] e h f = (f, tt)
 steps-push x s (d ∷ es) e h f = (h.0, steps-push x (stepped s d) es e h.1 f)
 
 stamps-push : (last : Stamp) (es : List CellEntry) (e : CellEntry) → AreStampedAfter last es →
-    e.stamp ≡ suc (max (last_stamp last es) (input_stamp e.input)) → AreStampedAfter last (es ++ e ∷ [])
+    e.stamp ≡ stamp_after (last_stamp last es) e.input → AreStampedAfter last (es ++ e ∷ [])
 stamps-push last [] e h f = (f, tt)
 stamps-push last (d ∷ es) e h f = (h.0, stamps-push d.stamp es e h.1 f)
 
@@ -52,13 +52,13 @@ numbers-push (d ∷ es) e h f = (
 
 stamps_given : (x : Id) (last : Stamp) (s : State) (inputs : List CellInput) → AreStampedAfter last (history_from x last s inputs)
 stamps_given x last s [] = tt
-stamps_given x last s (i ∷ inputs) = (refl, stamps_given x (suc (max last (input_stamp i))) (step s (input_of i)).state inputs)
+stamps_given x last s (i ∷ inputs) = (refl, stamps_given x (stamp_after last i) (step s (input_of i)).state inputs)
 
 steps_given : (x : Id) (last : Stamp) (s : State) (inputs : List CellInput) → All (IsFor x) inputs → AreSteps x s (history_from x last s inputs)
 steps_given x last s [] h = tt
 steps_given x last s (i ∷ inputs) h = (
   record { addressed = All-head (IsFor x) i inputs h; sent = refl; notes = refl },
-  steps_given x (suc (max last (input_stamp i))) (step s (input_of i)).state inputs (All-tail (IsFor x) i inputs h),
+  steps_given x (stamp_after last i) (step s (input_of i)).state inputs (All-tail (IsFor x) i inputs h),
 )
 
 -- it is a cell's history
@@ -72,7 +72,7 @@ inputs_of es = map (λ (e : CellEntry). e.input) es
 abbrev made : Stamp → CellInput → List Envelope → List Note → CellEntry
 made stamp i sent notes = record { stamp = stamp; input = i; sent = sent; notes = notes }
 
-one_given : (x : Id) (last : Stamp) (s : State) (e : CellEntry) → e.stamp ≡ suc (max last (input_stamp e.input)) → IsStep x s e →
+one_given : (x : Id) (last : Stamp) (s : State) (e : CellEntry) → e.stamp ≡ stamp_after last e.input → IsStep x s e →
     e ≡ next_entry x last s e.input
 one_given x last s e stamp h =
     (λ k. made e.stamp e.input (h.sent k) (h.notes k)) ∙ ap (entry_stamped x s e.input) stamp

@@ -48,10 +48,14 @@ abbrev pub replay : State → List CellEntry → State
 replay s [] = s
 replay s (e ∷ es) = replay (stepped s e) es
 
--- each stamp is one more than the greater of the stamp before it and its input's stamp
+-- one more than the greater of the stamp before it and the input's own
+abbrev pub stamp_after : Stamp → CellInput → Stamp
+stamp_after last i = suc (max last (input_stamp i))
+
+-- each has the stamp after that of the one before it
 abbrev pub AreStampedAfter : Stamp → List CellEntry → Type 0
 AreStampedAfter last [] = Unit {0}
-AreStampedAfter last (e ∷ es) = (e.stamp ≡ suc (max last (input_stamp e.input))) × AreStampedAfter e.stamp es
+AreStampedAfter last (e ∷ es) = (e.stamp ≡ stamp_after last e.input) × AreStampedAfter e.stamp es
 
 -- the stamp of the last entry, or what it was before the first
 abbrev pub last_stamp : Stamp → List CellEntry → Stamp

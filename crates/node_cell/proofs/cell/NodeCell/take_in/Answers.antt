@@ -1,7 +1,7 @@
-use Rattle.std.proofs.Common.{◌≡◌, ◌<◌, ◌∙◌, ◌++◌, ◌∷◌, [], ℕ, suc, max, List, sym, ap, subst}
+use Rattle.std.proofs.Common.{◌≡◌, ◌<◌, ◌∙◌, ◌++◌, ◌∷◌, [], ℕ, max, List, sym, ap, subst}
 use Rattle.std.proofs.lemmas.List.{map-append}
 use Rattle.node_parts.specs.Seen.{Stands}
-use Rattle.weave_laws.specs.Cells.{CellInput, CellEntry, input_stamp, stepped}
+use Rattle.weave_laws.specs.Cells.{CellInput, CellEntry, input_stamp, stamp_after, stepped}
 use Rattle.node_cell.specs.declared.entry.CellEntry.{CellEntry as CodeEntry}
 use Rattle.node_cell.specs.declared.fault.TheConstants.{LAST_STAMP}
 use Rattle.node_cell.specs.declared.frames.Addressed.{Addressed}
@@ -17,7 +17,7 @@ kept c = subst (λ (q : Cell). IsCell c.self.inside.node c.self.inside.stamp q) 
 
 -- the stamp, as of the cell's own
 stamped : (c : goal.After-self-1) → c.in_ok-planned.planned.entry.stamp ≡ (entry_next c.args.self.now (plain_input_of c.args.input)).stamp
-stamped c = c.in_ok-planned.ensures.stamp ∙ ap (λ (n : ℕ). suc (max n (input_stamp (plain_input_of c.args.input)))) (kept c).stamped
+stamped c = c.in_ok-planned.ensures.stamp ∙ ap (λ (n : ℕ). stamp_after n (plain_input_of c.args.input)) (kept c).stamped
 
 -- what was planned, as of the cell's own state and stamp
 planned : (c : goal.After-self-1) → let i : CellInput = plain_input_of c.args.input in let r : Cell = c.args.self.now in
@@ -25,8 +25,8 @@ planned : (c : goal.After-self-1) → let i : CellInput = plain_input_of c.args.
 planned c =
     let r : Cell = c.args.self.now in
     let i : CellInput = plain_input_of c.args.input in
-    subst (λ (n : ℕ). IsPlanned r.node (state_of r) (suc (max n (input_stamp i))) i c.in_ok-planned.planned) (kept c).stamped
-    (subst (λ (x : ℕ). IsPlanned x (state_of r) (suc (max c.self.inside.stamp (input_stamp i))) i c.in_ok-planned.planned)
+    subst (λ (n : ℕ). IsPlanned r.node (state_of r) (stamp_after n i) i c.in_ok-planned.planned) (kept c).stamped
+    (subst (λ (x : ℕ). IsPlanned x (state_of r) (stamp_after c.self.inside.stamp i) i c.in_ok-planned.planned)
     (ap (λ (q : Cell). q.node) c.self.view_is) (c.in_ok-planned.ensures.planned (state_of r) (kept c).stands))
 
 longer : (c : goal.After-self-1) → plain_history c.commit.new.history.items ≡ (with_input c.args.self.now (plain_input_of c.args.input)).history
