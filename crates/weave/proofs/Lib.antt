@@ -6,6 +6,7 @@ pub mod Stretches
 pub mod Stopping
 pub mod Standing
 pub mod Wanting
+pub mod Following
 pub mod Strays
 pub mod Unreads
 pub mod Missing

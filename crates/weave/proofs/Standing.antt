@@ -61,7 +61,7 @@ never_both a b (inr (same, lt)) (inl gt) = omega arith
 never_both a b (inr (same, lt)) (inr (other, gt)) = omega arith
 
 -- what holds of those before an entry and of those behind it
-order_behind : (before : List Act) (a : Act) (behind : List Act) → AreInOrder (before ++ a ∷ behind) → Each (ComesBefore a) behind
+pub order_behind : (before : List Act) (a : Act) (behind : List Act) → AreInOrder (before ++ a ∷ behind) → Each (ComesBefore a) behind
 order_behind [] a behind o = Each-from_all (ComesBefore a) behind o.0
 order_behind (b ∷ before) a behind o = order_behind before a behind o.1
 

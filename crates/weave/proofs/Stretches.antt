@@ -1,13 +1,12 @@
 -- What is earlier in a stretch of a list, and before it.
-use Rattle.std.proofs.Common.{◌≡◌, ◌<◌, ◌≤◌, ◌+◌, ◌-◌, inl, inr, ℕ, Bool, true, List, length, get_or, Bor, sym, subst, arith}
+use Rattle.std.proofs.Common.{◌≡◌, ◌<◌, ◌≤◌, ◌+◌, ◌-◌, inl, inr, ℕ, Bool, true, List, map, length, get_or, sym, subst, arith}
 use Rattle.std.proofs.lemmas.Bool.{cases_order}
 use Rattle.std.proofs.lemmas.List.Edits.{get_or-between, length-between}
 use Rattle.std.specs.List.{AllWithin, between}
 use Rattle.std.specs.List.Sorted.{IsPartitionedBy}
-use Rattle.wire_msg.specs.declared.message.Envelope.{Envelope as CodeEnvelope}
 use Rattle.wire_msg.specs.Words.{Envelope}
-use Rattle.weave.specs.ByStamp.{AreByStamp, envelopes_at, is_earlier}
-use Rattle.weave.proofs.Searching.{get_at, partitioned, seen}
+use Rattle.weave.specs.ByStamp.{AreByStamp, is_earlier}
+use Rattle.weave.proofs.Searching.{get_at, partitioned}
 
 -- a stretch of what is partitioned is
 pub stretch_partitioned : {X : Type 0} (p : X → Bool) (xs : List X) (from upto : ℕ) → upto ≤ length xs → IsPartitionedBy p xs →
@@ -34,8 +33,8 @@ before_and_within {X = X} P xs from upto n within some before first k d ge lt =
           (subst P (get_or-between xs from upto (k - from) d (omega arith)) (first (k - from) d (omega arith) (omega arith)))
 
 -- where the last of the first envelopes is earlier, all of them are
-pub earlier_before : (xs : List (Bor CodeEnvelope)) (w : Envelope) (last : ℕ) (v : Bor CodeEnvelope) → AreByStamp (envelopes_at xs) → last < length xs →
-    v ≡ get_or xs last v → is_earlier (seen v) w ≡ true → AllWithin (λ (u : Bor CodeEnvelope). is_earlier (seen u) w ≡ true) xs 0 (last + 1)
-earlier_before xs w last v s within is e k d ge lt =
-    let same : seen (get_or xs last d) ≡ seen v = let a = get_at xs last d within in let b = get_at xs last v within in cc in
-    partitioned xs w s k last d (omega arith) within (subst (λ u. is_earlier u w ≡ true) (sym same) e)
+pub earlier_before : {A : Type 0} (f : A → Envelope) (xs : List A) (w : Envelope) (last : ℕ) (v : A) → AreByStamp (map f xs) → last < length xs →
+    v ≡ get_or xs last v → is_earlier (f v) w ≡ true → AllWithin (λ (u : A). is_earlier (f u) w ≡ true) xs 0 (last + 1)
+earlier_before f xs w last v s within is e k d ge lt =
+    let same : f (get_or xs last d) ≡ f v = let a = get_at f xs last d within in let b = get_at f xs last v within in cc in
+    partitioned f xs w s k last d (omega arith) within (subst (λ u. is_earlier u w ≡ true) (sym same) e)

@@ -1,5 +1,7 @@
 pub mod Cells
 pub mod Placed
+pub mod Follow
+pub mod Growing
 pub mod ByStamp
 pub mod Stray
 pub mod Stops

@@ -2,14 +2,12 @@
 
 ghost use Rattle.std.specs.Prelude.{◌≡◌, ◌++◌, IfOk, OnOk, All, map};
 ghost use Rattle.weave_laws.specs.Woven.{IsWovenOrder};
-ghost use Rattle.weave.specs.ByStamp.{AreByStamp, envelopes_at};
 ghost use Rattle.weave.specs.Cells.{HaveOwnNodes, IsLawful, histories};
-ghost use Rattle.weave.specs.Placed.{AreEntriesOf, acts_in, all_placed, placed, placed_in, sent_by};
+ghost use Rattle.weave.specs.Placed.{AreEntriesOf, acts_in, all_placed, placed, placed_in};
 
 use node_cell::{CellEntry, NodeCell};
 use ring_math::{Id, OutOfMemory};
 use std::alloc::Global;
-use wire_msg::Envelope;
 
 /// An entry of a cell's history. Its stamp stands beside it, since entries are sorted by it.
 #[derive(Clone, Copy)]
@@ -59,26 +57,6 @@ fn add_history<'a>(acts: &mut Vec<Act<'a>>, cell: &'a NodeCell) -> Result<(), Ou
             place,
             entry,
         });
-    }
-    Ok(())
-}
-
-/// All that the entries sent, in their order.
-pub(crate) fn sent_by<'a>(alloc: Global, acts: &[Act<'a>]) -> Result<Vec<&'a Envelope>, OutOfMemory>
-    ensures { IfOk result (λ sent. envelopes_at sent.items ≡ sent_by (acts_in (map placed acts.now))) }
-{
-    let mut sent = Vec::new(alloc);
-    for act in acts {
-        add_sent(&mut sent, act.entry)?;
-    }
-    Ok(sent)
-}
-
-fn add_sent<'a>(sent: &mut Vec<&'a Envelope>, entry: &'a CellEntry) -> Result<(), OutOfMemory>
-    ensures { OnOk result (envelopes_at sent.new.items ≡ envelopes_at sent.old.items ++ entry.now.sent) }
-{
-    for envelope in entry.sent.as_slice() {
-        sent.push(envelope)?;
     }
     Ok(())
 }

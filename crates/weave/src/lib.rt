@@ -6,9 +6,11 @@
 
 mod acts;
 mod fault;
+mod kept;
 mod reading;
 mod relay;
 mod search;
+mod starts;
 mod through;
 mod untaken;
 mod waiting;

@@ -1,27 +1,30 @@
 //! The woven record of cells.
 
-ghost use Rattle.std.specs.Prelude.{◌≡◌, IfOk, IfErr, All, map};
+ghost use Rattle.std.specs.Prelude.{◌≡◌, ◌++◌, [], IfOk, IfErr, OnOk, All, map};
 ghost use Rattle.std.specs.List.{AllZip};
 ghost use Rattle.wire_msg.specs.Words.{plain_envelope};
-ghost use Rattle.overlay_rules.specs.Record.{Legal};
+ghost use Rattle.overlay_rules.specs.Record.{Legal, sent_in};
 ghost use Rattle.weave_laws.specs.Cells.{Comes};
 ghost use Rattle.weave_laws.specs.AtNode.{IsPartOf};
 ghost use Rattle.weave_laws.specs.Woven.{IsEntryOf, IsEventOf, IsWoven};
 ghost use Rattle.node_cell.specs.Entries.{plain_entry};
-ghost use Rattle.weave.specs.ByStamp.{AreByStamp, kept_in};
+ghost use Rattle.weave.specs.ByStamp.{AreByStamp};
 ghost use Rattle.weave.specs.Cells.{AreOneRing, HaveOwnNodes, histories, setting_of};
-ghost use Rattle.weave.specs.Placed.{acts_in, placed};
+ghost use Rattle.weave.specs.Follow.{FollowSendings};
+ghost use Rattle.weave.specs.Growing.{HasOneMore, IsEmptied};
+ghost use Rattle.weave.specs.Placed.{acts_in, placed, sent_by};
 ghost use Rattle.weave.specs.Stray.{IsDueTo};
 ghost use Rattle.weave.specs.Stops.{IsStopAt, StopsAt};
 
-use crate::acts::{Act, sent_by, woven_order};
+use crate::acts::{Act, woven_order};
 use crate::fault::WeaveFault;
-use crate::search::{Sorted, place_of, sorted_of};
+use crate::search::place_among;
+use crate::starts::Starts;
 use node_cell::{CellInput, NodeCell};
-use overlay_rules::{Entries, Entry, Event, Record};
+use overlay_rules::{Entries, Event, Record};
 use ring_math::OutOfMemory;
 use std::alloc::Global;
-use wire_msg::{Envelope, Envelopes, Note, Notes};
+use wire_msg::{Envelope, Note};
 
 /// All entries of the cells by stamp, and then by node. A message that came in is numbered as the first equal one that was sent.
 /// `Stray` comes exactly where one was sent in no history, or `OutOfMemory` in its place. Where exactly one cell was made as the
@@ -34,48 +37,79 @@ pub fn weave(alloc: Global, cells: &[NodeCell]) -> Result<Record, WeaveFault>
     ensures due { IfErr result (IsDueTo (histories cells.now)) }
 {
     let acts = woven_order(alloc, cells)?;
-    let listed = sent_by(alloc, &acts)?;
-    let sent = sorted_of(alloc, listed)?;
-    let entries = entries_of(alloc, &acts, &sent)?;
+    let entries = entries_of(alloc, &acts)?;
     Ok(Record {
         entries,
         skipped: 0,
     })
 }
 
-/// The entries of a record that these become, where all this was sent.
-fn entries_of(alloc: Global, acts: &[Act<'_>], sent: &Sorted<'_>) -> Result<Entries, WeaveFault>
-    requires { AreByStamp (kept_in sent.now) }
-    ensures ok { IfOk result (λ entries. AllZip (IsEntryOf (kept_in sent.now)) (acts_in (map placed acts.now)) entries) }
-    ensures err { IfErr result (StopsAt (kept_in sent.now) (map placed acts.now)) }
+/// The entries of a record that these become.
+fn entries_of(alloc: Global, acts: &[Act<'_>]) -> Result<Entries, WeaveFault>
+    requires { FollowSendings (map placed acts.now) }
+    ensures ok { IfOk result (λ entries. AllZip (IsEntryOf (sent_by (acts_in (map placed acts.now)))) (acts_in (map placed acts.now)) entries) }
+    ensures err { IfErr result (StopsAt (sent_by (acts_in (map placed acts.now))) (map placed acts.now)) }
 {
-    let mut entries = Entries::new(alloc);
+    let mut weaving = Weaving::new(alloc, acts.len());
     for act in acts {
-        entries.push(entry_of(alloc, act, sent)?)?;
+        weaving.add(alloc, act)?;
     }
-    Ok(entries)
+    Ok(weaving.entries)
 }
 
-/// The entry of a record that one of a history becomes. Its messages and notes share the bytes that the history has.
-fn entry_of(alloc: Global, act: &Act<'_>, sent: &Sorted<'_>) -> Result<Entry, WeaveFault>
-    requires { AreByStamp (kept_in sent.now) }
-    ensures ok { IfOk result (λ entry. IsEntryOf (kept_in sent.now) (placed act.now).act entry) }
-    ensures err { IfErr result (IsStopAt (kept_in sent.now) (placed act.now)) }
-{
-    let event = event_of(alloc, act, sent)?;
-    let messages = shared_envelopes(alloc, act.entry.sent.as_slice())?;
-    let notes = shared_notes(alloc, act.entry.notes.as_slice())?;
-    Ok(Entry {
-        event,
-        messages,
-        notes,
-    })
+/// The entries so far, and what is needed for one more.
+#[derive(Drop)]
+pub(crate) struct Weaving {
+    pub(crate) entries: Entries,
+    /// Where messages begin among all that these sent.
+    starts: Starts,
+    /// What the next entry sends and notes. Between two entries both are empty.
+    pub(crate) messages: Vec<Envelope>,
+    pub(crate) notes: Vec<Note>,
 }
 
-fn event_of(alloc: Global, act: &Act<'_>, sent: &Sorted<'_>) -> Result<Event, WeaveFault>
-    requires { AreByStamp (kept_in sent.now) }
-    ensures ok { IfOk result (IsEventOf (kept_in sent.now) act.now.node (plain_entry act.now.entry.now).input) }
-    ensures err { IfErr result (IsStopAt (kept_in sent.now) (placed act.now)) }
+impl Weaving {
+    /// No entry, of so many that are to come.
+    fn new(alloc: Global, count: usize) -> Weaving
+        ensures entries { result.entries ≡ [] }
+        ensures emptied { IsEmptied result }
+    {
+        Weaving {
+            entries: Entries::new(alloc),
+            starts: Starts::new(alloc, count),
+            messages: Vec::new(alloc),
+            notes: Vec::new(alloc),
+        }
+    }
+
+    /// The entry that one of a history becomes. What it took in is sought among what the entries before it sent, where the record
+    /// has just got it. Its messages and notes share the bytes that the history has.
+    fn add(&mut self, alloc: Global, act: &Act<'_>) -> Result<(), WeaveFault>
+        requires sorted { AreByStamp (sent_in self.old.entries) }
+        requires emptied { IsEmptied self.old }
+        ensures ok { OnOk result (HasOneMore (placed act.now).act self.old.entries self.new.entries) }
+        ensures emptied { OnOk result (IsEmptied self.new) }
+        ensures err { IfErr result (IsStopAt (sent_in self.old.entries) (placed act.now)) }
+    {
+        self.starts.begin(act.stamp, self.entries.sent().len())?;
+        let event = event_of(alloc, act, self.entries.sent(), &self.starts)?;
+        copy_envelopes(alloc, &mut self.messages, act.entry.sent.as_slice())?;
+        copy_notes(alloc, &mut self.notes, act.entry.notes.as_slice())?;
+        self.entries
+            .append(event, &mut self.messages, &mut self.notes)?;
+        Ok(())
+    }
+}
+
+fn event_of(
+    alloc: Global,
+    act: &Act<'_>,
+    sent: &[Envelope],
+    starts: &Starts,
+) -> Result<Event, WeaveFault>
+    requires { AreByStamp (map plain_envelope sent.now) }
+    ensures ok { IfOk result (IsEventOf (map plain_envelope sent.now) act.now.node (plain_entry act.now.entry.now).input) }
+    ensures err { IfErr result (IsStopAt (map plain_envelope sent.now) (placed act.now)) }
 {
     match &act.entry.input {
         CellInput::Command { number, command } => Ok(Event::Command {
@@ -83,7 +117,7 @@ fn event_of(alloc: Global, act: &Act<'_>, sent: &Sorted<'_>) -> Result<Event, We
             number: *number,
             command: command.copy(alloc)?,
         }),
-        CellInput::Comes(envelope) => delivery_of(alloc, act, sent, envelope),
+        CellInput::Comes(envelope) => delivery_of(alloc, act, sent, starts, envelope),
         CellInput::Noise => Ok(Event::Noise { node: act.node }),
     }
 }
@@ -92,15 +126,16 @@ fn event_of(alloc: Global, act: &Act<'_>, sent: &Sorted<'_>) -> Result<Event, We
 fn delivery_of(
     alloc: Global,
     act: &Act<'_>,
-    sent: &Sorted<'_>,
+    sent: &[Envelope],
+    starts: &Starts,
     envelope: &Envelope,
 ) -> Result<Event, WeaveFault>
-    requires sorted { AreByStamp (kept_in sent.now) }
+    requires sorted { AreByStamp (map plain_envelope sent.now) }
     requires comes { (plain_entry act.now.entry.now).input ≡ Comes (plain_envelope envelope.now) }
-    ensures ok { IfOk result (IsEventOf (kept_in sent.now) act.now.node (Comes (plain_envelope envelope.now))) }
-    ensures err { IfErr result (IsStopAt (kept_in sent.now) (placed act.now)) }
+    ensures ok { IfOk result (IsEventOf (map plain_envelope sent.now) act.now.node (Comes (plain_envelope envelope.now))) }
+    ensures err { IfErr result (IsStopAt (map plain_envelope sent.now) (placed act.now)) }
 {
-    match place_of(sent, envelope) {
+    match place_among(sent, starts, envelope) {
         Some(place) => Ok(Event::Deliver {
             message: place as u64,
         }),
@@ -112,22 +147,25 @@ fn delivery_of(
     }
 }
 
-fn shared_envelopes(alloc: Global, envelopes: &[Envelope]) -> Result<Envelopes, OutOfMemory>
-    ensures { IfOk result (λ shared. shared ≡ map plain_envelope envelopes.now) }
+/// Copies these to the end of a list. The copies share the bytes that they have.
+fn copy_envelopes(
+    alloc: Global,
+    to: &mut Vec<Envelope>,
+    envelopes: &[Envelope],
+) -> Result<(), OutOfMemory>
+    ensures { OnOk result (map plain_envelope to.new.items ≡ map plain_envelope to.old.items ++ map plain_envelope envelopes.now) }
 {
-    let mut shared = Vec::with_capacity(alloc, envelopes.len())?;
     for envelope in envelopes {
-        shared.push(envelope.copy(alloc)?)?;
+        to.push(envelope.copy(alloc)?)?;
     }
-    Ok(Envelopes::of(shared))
+    Ok(())
 }
 
-fn shared_notes(alloc: Global, notes: &[Note]) -> Result<Notes, OutOfMemory>
-    ensures { IfOk result (λ shared. shared ≡ notes.now) }
+fn copy_notes(alloc: Global, to: &mut Vec<Note>, notes: &[Note]) -> Result<(), OutOfMemory>
+    ensures { OnOk result (to.new.items ≡ to.old.items ++ notes.now) }
 {
-    let mut shared = Notes::new(alloc);
     for note in notes {
-        shared.push(note.copy(alloc)?)?;
+        to.push(note.copy(alloc)?)?;
     }
-    Ok(shared)
+    Ok(())
 }

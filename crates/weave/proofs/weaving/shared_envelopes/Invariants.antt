@@ -1,6 +1,0 @@
-use Rattle.std.proofs.Common.{◌≡◌, map, take}
-use Rattle.wire_msg.specs.Words.{plain_envelope}
-use Rattle.weave.proofs.weaving.shared_envelopes.Given as goal
-
-abbrev pub invariant-loop-envelope : goal.invariant-loop-envelope
-invariant-loop-envelope l = map plain_envelope l.shared.items ≡ map plain_envelope (take l.envelope-index l.envelopes)
