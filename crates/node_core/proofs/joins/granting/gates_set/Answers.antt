@@ -19,6 +19,7 @@ returns c = λ known.
     (gate_after c.in_ok-right_gate.right_gate s.right_gate) x g.joiner) c.in_ok-gap.ensures.ok
     ∙ ap (λ (x : Option Lease). opened_state s x (gate_after c.in_ok-right_gate.right_gate s.right_gate) c.args.reach.now g.joiner)
     (c.in_ok-left_gate.ensures ∙ ap (λ (b : Bool). gate_on b lease (unless_lease (is_older g.joiner g.attempt) s.left_gate)) c.eq-on_left.ensures)
-    ∙ ap (λ (x : Option Lease). opened_state s (gate_on (s.me == g.right) lease (unless_lease (is_older g.joiner g.attempt) s.left_gate)) x c.args.reach.now g.joiner)
+    ∙ ap (λ (x : Option Lease).
+    opened_state s (gate_on (s.me == g.right) lease (unless_lease (is_older g.joiner g.attempt) s.left_gate)) x c.args.reach.now g.joiner)
     (c.in_ok-right_gate.ensures ∙ ap (λ (b : Bool). gate_on b lease (unless_lease (is_older g.joiner g.attempt) s.right_gate)) c.eq-on_right.ensures))
     (c.of.ensures s)
