@@ -1,4 +1,4 @@
-use Rattle.std.proofs.Common.{IfErr, Result, List, refl, sym, subst, map, take, ◌+◌}
+use Rattle.std.proofs.Common.{IfErr, Result, List, sym, subst, map, take, ◌+◌}
 use Rattle.std.proofs.lemmas.Result.{err_from_is_err_and}
 use Rattle.std.specs.List.{AllZip}
 use Rattle.wire_msg.specs.Words.{Envelope}

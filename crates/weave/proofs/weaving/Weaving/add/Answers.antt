@@ -1,7 +1,4 @@
-use Rattle.std.proofs.Common.{◌∙◌, ◌++◌, ◌∷◌, [], List, sym, subst, ap}
-use Rattle.wire_msg.specs.declared.note.Note.{Note}
-use Rattle.wire_msg.specs.Words.{Envelope}
-use Rattle.overlay_rules.specs.declared.entry.Entry.{Entry}
+use Rattle.std.proofs.Common.{sym, subst}
 use Rattle.weave.specs.ByStamp.{AreByStamp}
 use Rattle.weave.proofs.weaving.Weaving.add.Goals as goal
 
