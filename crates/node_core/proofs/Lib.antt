@@ -5,7 +5,6 @@ pub mod Few
 pub mod Sound
 pub mod Storing
 pub mod Routing
-pub mod Refusals
 pub mod Replies
 pub mod Replicas
 pub mod Reclaims

@@ -6,14 +6,11 @@ use Rattle.wire_msg.specs.Words.{Message}
 use Rattle.overlay_rules.specs.declared.request.Asked.{Asked}
 use Rattle.overlay_rules.specs.declared.request.Way.{Way}
 use Rattle.overlay_rules.specs.declared.request.Way.TheVariants as way
-use Rattle.overlay_rules.specs.State.{State}
 use Rattle.overlay_rules.specs.Outcome.{Outcome, replied}
 use Rattle.overlay_rules.specs.Routed.{way_of, served as served_by}
-use Rattle.node_parts.specs.declared.change.Prepared.{Prepared}
 use Rattle.node_parts.specs.declared.node.Node.{Node}
 use Rattle.node_parts.specs.Change.{waited}
 use Rattle.node_parts.specs.Seen.{seen, Shows}
-use Rattle.node_parts.specs.Plans.{Plans}
 use Rattle.node_core.specs.declared.request.Request.{Request}
 use Rattle.node_core.specs.declared.request.Served.{Served}
 use Rattle.node_core.specs.declared.request.Served.TheVariants as served
@@ -22,19 +19,14 @@ use Rattle.node_core.specs.declared.request.Served.TheVariants as served
 abbrev pub Leads : Node → Request → Key → Way → Type 0
 Leads n r key w = (known : List Id) → Shows n known → w ≡ way_of (waited r.wait (seen n known)) key
 
--- what was prepared is the refusal, whatever the request would have been answered or passed on as
-abbrev pub IsRefusal : Node → Request → Asked → Key → Prepared → Type 0
-IsRefusal n r what key p =
-    (known : List Id) → Shows n known → (next : Message) (here : Outcome) → Plans (seen n known) p
-    (served_by (waited r.wait (seen n known)) what r.origin r.number (way_of (waited r.wait (seen n known)) key) next here)
+-- the request is refused with this reply, whatever it would have been answered or passed on as
+abbrev pub IsRefusal : Node → Request → Key → Reply → Type 0
+IsRefusal n r key reply =
+    (known : List Id) → Shows n known → (what : Asked) (next : Message) (here : Outcome) →
+    served_by (waited r.wait (seen n known)) what r.origin r.number (way_of (waited r.wait (seen n known)) key) next here
+    ≡ replied (waited r.wait (seen n known)) what r.origin r.number reply
 
-abbrev pub IsServed : Node → Request → Asked → Key → Served → Type 0
-IsServed n r what key served.Here = Leads n r key way.Here
-IsServed n r what key (served.On y) = Leads n r key (way.To y)
-IsServed n r what key (served.Refused p) = IsRefusal n r what key p
-
--- the request is replied by what was prepared
-abbrev pub IsReplied : Request → Asked → Reply → Served → Type 0
-IsReplied r what reply (served.Refused p) = (s : State) → Plans s p (replied (waited r.wait s) what r.origin r.number reply)
-IsReplied r what reply served.Here = ⊥
-IsReplied r what reply (served.On y) = ⊥
+abbrev pub IsServed : Node → Request → Key → Served → Type 0
+IsServed n r key served.Here = Leads n r key way.Here
+IsServed n r key (served.On y) = Leads n r key (way.To y)
+IsServed n r key (served.Refused reply) = IsRefusal n r key reply

@@ -2,7 +2,7 @@
 //!
 //! The rows are not inlined: a call clears its locals as it begins, and each row is to clear its own alone.
 
-ghost use Rattle.std.specs.Prelude.{◌≡◌, IfOk, List, ℕ};
+ghost use Rattle.std.specs.Prelude.{IfOk, List, ℕ};
 ghost use Rattle.overlay_rules.specs.Step.{step as step_of, on_message as on_message_of, on_command as on_command_of};
 ghost use Rattle.wire_msg.specs.Words.{plain};
 ghost use Rattle.node_parts.specs.Seen.{seen, Shows};

@@ -7,7 +7,8 @@ ghost use Rattle.overlay_rules.specs.Outcome.{becomes, sent, replied as replied_
 ghost use Rattle.node_parts.specs.declared.change.Wait.TheVariants as waiting;
 ghost use Rattle.node_parts.specs.Change.{waited};
 ghost use Rattle.node_parts.specs.Plans.{Plans};
-ghost use Rattle.node_core.specs.Served.{IsServed, IsReplied};
+ghost use Rattle.node_core.specs.declared.request.Request.{Request as PlainRequest};
+ghost use Rattle.node_core.specs.Served.{IsServed};
 
 use node_parts::{Change, Node, Prepared, Wait};
 use overlay_rules::{Asked, Way};
@@ -30,8 +31,27 @@ pub(crate) enum Served {
     Here,
     /// It is to be passed on to this node.
     On { node: Id },
-    /// It is refused, as is prepared.
-    Refused(Prepared),
+    /// It is refused with this reply.
+    Refused { reply: Reply },
+}
+
+/// What becomes of a request for a key: a node that is not ready refuses it, and so does one that keeps the key for a joiner.
+pub(crate) fn served(node: &Node, key: Id) -> Served
+    ensures { (request : PlainRequest) → IsServed node.now request key result }
+{
+    match node.way(key) {
+        Way::Here => Served::Here,
+        Way::To { node } => Served::On { node },
+        Way::NotReady => Served::Refused {
+            reply: Reply::NotReady { node: node.me },
+        },
+        Way::Gap { joiner } => Served::Refused {
+            reply: Reply::Busy {
+                node: node.me,
+                joiner,
+            },
+        },
+    }
 }
 
 impl Request {
@@ -55,39 +75,6 @@ impl Request {
             number,
             wait: Wait::Add { number },
         }
-    }
-
-    /// Where the request's key leads: a node that is not ready refuses it, and so does one that keeps the key for a joiner.
-    pub(crate) fn served(
-        &self,
-        node: &Node,
-        alloc: Global,
-        what: Asked,
-        key: Id,
-    ) -> Result<Served, OutOfMemory>
-        ensures { IfOk result (IsServed node.now self.now what key) }
-    {
-        match node.way(key) {
-            Way::Here => Ok(Served::Here),
-            Way::To { node } => Ok(Served::On { node }),
-            Way::NotReady => self.refused(alloc, what, Reply::NotReady { node: node.me }),
-            Way::Gap { joiner } => self.refused(
-                alloc,
-                what,
-                Reply::Busy {
-                    node: node.me,
-                    joiner,
-                },
-            ),
-        }
-    }
-
-    /// The request is refused with this reply.
-    fn refused(&self, alloc: Global, what: Asked, reply: Reply) -> Result<Served, OutOfMemory>
-        ensures { IfOk result (IsReplied self.now what reply) }
-    {
-        let prepared = self.replied(alloc, what, reply)?;
-        Ok(Served::Refused(prepared))
     }
 
     /// The request is replied.

@@ -1,6 +1,6 @@
 -- Entries in the woven order follow the sendings of what they take in, and find it among what the entries before them sent.
-use Rattle.std.proofs.Common.{◌≡◌, ◌<◌, ◌≤◌, ◌+◌, ◌∙◌, inl, inr, ℕ, zero, suc, Some, List, [], ◌∷◌, ◌++◌}
-use Rattle.std.proofs.Common.{map, take, drop, length, get_or, slice_get, All, Contains, sym, subst, ap, arith}
+use Rattle.std.proofs.Common.{◌≡◌, ◌<◌, ◌≤◌, ◌+◌, ◌∙◌, inl, inr, ℕ, zero, suc, List, [], ◌∷◌, ◌++◌}
+use Rattle.std.proofs.Common.{map, take, drop, length, get_or, All, Contains, sym, subst, ap, arith}
 use Rattle.std.proofs.lemmas.List.{map-append}
 use Rattle.std.proofs.lemmas.List.Concat.{flat_map-append, flat_map-cons}
 use Rattle.std.proofs.lemmas.List.Elements.{All-head, All-tail, Contains-append_cases}
@@ -11,7 +11,7 @@ use Rattle.wire_msg.specs.Words.{Envelope}
 use Rattle.overlay_rules.specs.declared.entry.Event.{Event}
 use Rattle.overlay_rules.specs.declared.entry.Entry.{Entry}
 use Rattle.overlay_rules.specs.Record.{sent_in}
-use Rattle.overlay_rules.proofs.Each.{Each, Each-append, Each-contains, Each-from_all, Each-weaker}
+use Rattle.overlay_rules.proofs.Each.{Each, Each-append, Each-contains, Each-weaker}
 use Rattle.overlay_rules.proofs.OneMore.{slice_get-more}
 use Rattle.weave_laws.specs.Cells.{CellInput, Command, Comes, Noise, History, input_stamp}
 use Rattle.weave_laws.specs.Woven.{Act, ComesBefore, AreInOrder, IsEntryOf, IsEventOf, IsNumberOf, IsWovenOrder}

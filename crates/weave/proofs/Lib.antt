@@ -2,7 +2,6 @@ pub mod Placing
 pub mod Order
 pub mod Sendings
 pub mod Searching
-pub mod Stretches
 pub mod Stopping
 pub mod Standing
 pub mod Wanting

@@ -5,7 +5,7 @@ use Rattle.std.proofs.lemmas.List.Concat.{flat_map-cons}
 use Rattle.std.proofs.lemmas.List.Elements.{Contains-append_cases, Contains-append_left, Contains-append_right}
 use Rattle.ring_math.specs.Names.{Id}
 use Rattle.wire_msg.specs.Words.{Envelope}
-use Rattle.overlay_rules.proofs.Each.{Each, Each-all, Each-contains, Each-from_all, Each-itself, Each-weaker}
+use Rattle.overlay_rules.proofs.Each.{Each-all, Each-contains, Each-from_all, Each-itself, Each-weaker}
 use Rattle.weave_laws.specs.Cells.{CellEntry, CellInput, Command, Comes, Noise, History}
 use Rattle.weave.specs.Taken.{SentMissing, all_came, came_in, envelope_in}
 use Rattle.weave.specs.Unread.{AllRead, IsSomeUnread, IsTakenByNone}

@@ -1,76 +1,104 @@
-//! Where the envelopes of each stamp begin, in a list of envelopes by stamp.
+//! Where envelopes of a stamp and a sender may stand, in a list of envelopes by stamp and then by sender.
 
-ghost use Rattle.std.specs.Prelude.{◌≤◌};
+ghost use Rattle.std.specs.Prelude.{◌≤◌, vec_len};
 
-use ring_math::OutOfMemory;
+use ring_math::{Id, OutOfMemory};
 use std::alloc::Global;
 use wire_msg::Envelope;
 
-/// How many envelopes have a lower stamp, for each stamp up to the greatest, or up to the last row. The stamps that nodes give each
-/// other rise by ones, so that each has a row mostly. No promise rests on these: a search looks whether what they say is so.
+/// How many envelopes have a lower stamp, for each stamp below the last row, and a mark of each envelope's sender. The stamps that
+/// nodes give each other rise by ones, so that each has a row mostly, and a row has few envelopes. No promise rests on these: who
+/// asks looks whether what they say is so.
 #[derive(Drop)]
 pub(crate) struct Starts {
-    places: Vec<usize>,
+    rows: Vec<usize>,
+    marks: Vec<u16>,
     last_row: usize,
 }
 
 /// Where envelopes of one stamp stand.
 #[derive(Clone, Copy)]
-pub(crate) struct Stretch {
-    pub(crate) from: usize,
-    pub(crate) upto: usize,
+struct Stretch {
+    from: usize,
+    upto: usize,
 }
 
 impl Starts {
-    /// No envelope. From the last row on, stamps share it.
+    /// No envelope. Stamps from the last row on share it, and of these nothing is told.
     pub(crate) fn new(alloc: Global, last_row: usize) -> Starts {
         Starts {
-            places: Vec::new(alloc),
+            rows: Vec::new(alloc),
+            marks: Vec::new(alloc),
             last_row,
         }
     }
 
-    /// Envelopes of this stamp begin at this place, unless they began before.
-    pub(crate) fn begin(&mut self, stamp: u64, place: usize) -> Result<(), OutOfMemory> {
-        let row = self.row_of(stamp);
-        if self.places.len() <= row {
-            self.places.resize(row.saturating_add(1), place)?;
+    /// So many envelopes more, of a stamp that is not lower than any before, and a sender.
+    pub(crate) fn add(
+        &mut self,
+        stamp: u64,
+        sender: Id,
+        count: usize,
+    ) -> Result<(), OutOfMemory> {
+        let begin = self.marks.len();
+        let row = stamp.min(self.last_row as u64) as usize;
+        if self.rows.len() <= row {
+            self.rows.resize(row.saturating_add(1), begin)?;
         }
+        self.marks
+            .resize(begin.saturating_add(count), mark_of(sender))?;
         Ok(())
     }
 
-    fn row_of(&self, stamp: u64) -> usize {
-        stamp.min(self.last_row as u64) as usize
+    /// Where the first envelope of this stamp and sender may stand: the first of the stamp with the sender's mark.
+    pub(crate) fn guess(&self, stamp: u64, sender: Id) -> Option<usize> {
+        if stamp >= self.last_row as u64 {
+            return None;
+        }
+        let near = self.stretch(stamp as usize);
+        let mark = mark_of(sender);
+        let behind = self.marks[near.from..near.upto]
+            .iter()
+            .position(|other| *other == mark)?;
+        Some(near.from.saturating_add(behind))
     }
 
-    /// Where the envelopes of a stamp stand among so many.
-    pub(crate) fn stretch(&self, stamp: u64, count: usize) -> Stretch
+    /// Where the envelopes of a row stand.
+    fn stretch(&self, row: usize) -> Stretch
         ensures order { result.from ≤ result.upto }
-        ensures within { result.upto ≤ count }
+        ensures within { result.upto ≤ vec_len self.now.marks }
     {
-        let row = self.row_of(stamp);
-        let from = self.start_at(row, count);
+        let from = self.start(row);
         Stretch {
             from,
-            upto: self.start_at(row.saturating_add(1), count).max(from),
+            upto: self.start(row.saturating_add(1)).max(from),
         }
     }
 
-    fn start_at(&self, row: usize, count: usize) -> usize
-        ensures { result ≤ count }
+    /// Where a row begins, or the end if none did.
+    fn start(&self, row: usize) -> usize
+        ensures { result ≤ vec_len self.now.marks }
     {
-        match self.places.get(row) {
+        let count = self.marks.len();
+        match self.rows.get(row) {
             Some(start) => count.min(*start),
             None => count,
         }
     }
 }
 
-/// Where those of each stamp begin among envelopes by stamp.
+/// Sixteen bits that depend on all of an identifier.
+fn mark_of(id: Id) -> u16 {
+    let half = id.0 ^ (id.0 >> 64);
+    let quarter = half ^ (half >> 32);
+    ((quarter ^ (quarter >> 16)) & 0xffff) as u16
+}
+
+/// Where envelopes stand that are by stamp and then by sender.
 pub(crate) fn starts_of(alloc: Global, envelopes: &[&Envelope]) -> Result<Starts, OutOfMemory> {
     let mut starts = Starts::new(alloc, envelopes.len());
-    for (place, envelope) in envelopes.iter().enumerate() {
-        starts.begin(envelope.stamp, place)?;
+    for envelope in envelopes {
+        starts.add(envelope.stamp, envelope.sender, 1)?;
     }
     Ok(starts)
 }

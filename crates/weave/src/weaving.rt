@@ -61,7 +61,7 @@ fn entries_of(alloc: Global, acts: &[Act<'_>]) -> Result<Entries, WeaveFault>
 #[derive(Drop)]
 pub(crate) struct Weaving {
     pub(crate) entries: Entries,
-    /// Where messages begin among all that these sent.
+    /// Where messages of a stamp and a sender may stand among all that these sent.
     starts: Starts,
     /// What the next entry sends and notes. Between two entries both are empty.
     pub(crate) messages: Vec<Envelope>,
@@ -91,9 +91,10 @@ impl Weaving {
         ensures emptied { OnOk result (IsEmptied self.new) }
         ensures err { IfErr result (IsStopAt (sent_in self.old.entries) (placed act.now)) }
     {
-        self.starts.begin(act.stamp, self.entries.sent().len())?;
         let event = event_of(alloc, act, self.entries.sent(), &self.starts)?;
-        copy_envelopes(alloc, &mut self.messages, act.entry.sent.as_slice())?;
+        let sent = act.entry.sent.as_slice();
+        self.starts.add(act.stamp, act.node, sent.len())?;
+        copy_envelopes(alloc, &mut self.messages, sent)?;
         copy_notes(alloc, &mut self.notes, act.entry.notes.as_slice())?;
         self.entries
             .append(event, &mut self.messages, &mut self.notes)?;

@@ -1,18 +1,14 @@
 -- A world before an event, and after it.
-use Rattle.std.proofs.Common.{◌≡◌, ◌+◌, ℕ, List, [], ◌∷◌, ◌++◌, length, map, slice_index, sym, ap, subst, ◌∙◌, length-append}
+use Rattle.std.proofs.Common.{◌≡◌, ◌+◌, ℕ, List, [], ◌∷◌, length, map, slice_index, sym, ap, subst, ◌∙◌}
 use Rattle.std.proofs.lemmas.List.Elements.{All-nil}
-use Rattle.std.proofs.lemmas.List.{length-map}
 use Rattle.ring_math.specs.Names.{Id, Stamp}
-use Rattle.wire_msg.specs.declared.message.Envelope.{Envelope as CodeEnvelope}
 use Rattle.wire_msg.specs.declared.note.Note.{Note}
-use Rattle.wire_msg.specs.Words.{plain_envelope}
 use Rattle.overlay_rules.specs.declared.entry.Event.{Event}
 use Rattle.overlay_rules.specs.declared.entry.Entry.{Entry}
 use Rattle.overlay_rules.specs.Outcome.{Input, Sent}
 use Rattle.overlay_rules.specs.Step.{step}
-use Rattle.overlay_rules.specs.Record.{IsSaidBy, IsSetting, sent_in, enveloped, world_at_start}
+use Rattle.overlay_rules.specs.Record.{IsSaidBy, IsSetting, enveloped, world_at_start}
 use Rattle.overlay_rules.specs.Played.{entry_of}
-use Rattle.overlay_rules.proofs.Histories.{sent_in-push}
 use Rattle.step_facts.specs.Receivers.{ViaIs}
 use Rattle.node_parts.specs.declared.node.Node.{Node}
 use Rattle.node_parts.specs.declared.change.Prepared.{Prepared}
@@ -22,13 +18,12 @@ use Rattle.world_model.specs.Cells.{AllStand, ids_of}
 use Rattle.world_model.specs.Index.{ListsMessages}
 use Rattle.world_model.specs.Recorded.{Recorded, world_of}
 use Rattle.world_model.specs.Worlds.{ComesTo, IsWorld, entry_by}
-use Rattle.world_model.proofs.Listing.{receivers-count}
 use Rattle.world_model.proofs.MoreEvents.{entry-of}
 
 -- nothing has happened yet
 pub IsWorld-start : (cells : List Node) (a : Messages) (nodes : List Id) (founder : Id) (es : List Entry) →
     IsSetting (record { nodes = nodes; founder = founder }) → ids_of cells ≡ nodes → es ≡ [] →
-    AllStand cells (world_at_start (record { nodes = nodes; founder = founder })).states → ((ns : List Id) → ListsMessages a ns []) →
+    AllStand cells (world_at_start (record { nodes = nodes; founder = founder })).states → ListsMessages a [] →
     IsWorld cells a (record { nodes = ids_of cells; founder = founder; entries = es })
 IsWorld-start cells a nodes founder es s ids none st l =
     subst (λ (q : List Entry). IsWorld cells a (record { nodes = ids_of cells; founder = founder; entries = q })) (sym none)
@@ -38,13 +33,13 @@ IsWorld-start cells a nodes founder es s ids none st l =
       vias = All-nil (λ (e : Entry). ViaIs (record { nodes = nodes; founder = founder }) e.event);
       stamps = tt;
       stand = st;
-      listed = l nodes;
+      listed = l;
     }))
 
 -- what was prepared is refused
 pub IsWorld-kept : (cells new : List Node) (a b : Messages) (founder : Id) (es others : List Entry) →
     IsWorld cells a (record { nodes = ids_of cells; founder = founder; entries = es }) → ids_of new ≡ ids_of cells → others ≡ es →
-    ((states : _) → AllStand cells states → AllStand new states) → ((ns : List Id) (fs : List Entry) → ListsMessages a ns fs → ListsMessages b ns fs) →
+    ((states : _) → AllStand cells states → AllStand new states) → ((fs : List Entry) → ListsMessages a fs → ListsMessages b fs) →
     IsWorld new b (record { nodes = ids_of new; founder = founder; entries = others })
 IsWorld-kept cells new a b founder es others w ids same st l =
     subst (λ (q : List Entry). IsWorld new b (record { nodes = ids_of new; founder = founder; entries = q })) (sym same)
@@ -54,7 +49,7 @@ IsWorld-kept cells new a b founder es others w ids same st l =
       vias = w.vias;
       stamps = w.stamps;
       stand = st (world_of (record { nodes = ids_of cells; founder = founder; entries = es })).states w.stand;
-      listed = l (ids_of cells) es w.listed;
+      listed = l es w.listed;
     }))
 
 -- the entry of an event, as it is made of what was prepared
@@ -71,10 +66,3 @@ entry-made r v place c p i stamp x same plans numbered here =
     plans.notes
     ∙ ap (λ (j : Input). entry_by (length r.entries + 1) at v (step ((world_of r).states at) j)) same
     ∙ sym (entry-of r v at c.input c.is_at)
-
--- the lists of messages and all that was sent, after an entry of so many messages
-pub more-sent : (a : Messages) (nodes : List Id) (es new : List Entry) (e : Entry) (sent : List CodeEnvelope) → ListsMessages a nodes es → new ≡ es ++ e ∷ [] →
-    map plain_envelope sent ≡ sent_in new → length sent ≡ length a.receivers.items + length e.messages
-more-sent a nodes es new e sent h grown is =
-    sym (length-map sent plain_envelope) ∙ ap length (is ∙ ap sent_in grown ∙ sent_in-push es e) ∙ length-append (sent_in es) e.messages
-    ∙ ap (λ k. k + length e.messages) (sym (receivers-count a.receivers.items nodes (sent_in es) h.receivers))

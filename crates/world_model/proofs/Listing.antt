@@ -1,13 +1,10 @@
 -- The messages of a record that has one entry more.
 use Rattle.std.proofs.Common.{◌≡◌, ◌≢◌, ◌<◌, ◌≤◌, ◌==◌, ℕ, zero, suc, ◌+◌, ◌-◌, Bool, true, false, cond, ◌||◌, Option, Some, None, List, [], ◌∷◌, ◌++◌, length}
-use Rattle.std.proofs.Common.{map, get_or, slice_get, slice_index, slice_set, replicate, nat_lt}
+use Rattle.std.proofs.Common.{get_or, slice_get, slice_set, replicate, nat_lt}
 use Rattle.std.proofs.Common.{refl, sym, ap, subst, ◌∙◌, arith, length-append, zero-add, add-zero}
 use Rattle.std.proofs.lemmas.Bool.{ltb-true, ltb-false}
 use Rattle.std.proofs.lemmas.Bool.Decides.{Decides-eqb}
 use Rattle.std.proofs.lemmas.List.Folds.{list_any-append}
-use Rattle.std.proofs.lemmas.List.{length-map, map-append}
-use Rattle.std.proofs.lemmas.List.Elements.{All-push}
-use Rattle.wire_msg.specs.Words.{Envelope}
 use Rattle.overlay_rules.specs.declared.entry.Event.{Event}
 use Rattle.overlay_rules.specs.declared.entry.Event.TheVariants as event
 use Rattle.overlay_rules.specs.declared.entry.Entry.{Entry}
@@ -16,7 +13,7 @@ use Rattle.overlay_rules.specs.Played.{is_delivery_of, undelivered_from, oldest_
 use Rattle.overlay_rules.proofs.Histories.{sent_in-push}
 use Rattle.overlay_rules.proofs.OneMore.{or_false}
 use Rattle.world_model.specs.declared.index.Messages.{Messages}
-use Rattle.world_model.specs.Index.{ArePlaces, is_delivered, HasMarks, ListsMessages, IsBelow, delivered_by, marked, oldest_of, receivers_of}
+use Rattle.world_model.specs.Index.{is_delivered, HasMarks, ListsMessages, IsBelow, delivered_by, marked, oldest_of}
 
 by_test : {P : Type 0} (b : Bool) → (b ≡ true → P) → (b ≡ false → P) → P
 by_test true f g = f refl
@@ -32,43 +29,6 @@ pub get-within : {A : Type 0} (xs : List A) (i : ℕ) (x : A) → slice_get xs i
 get-within [] i x e = cc
 get-within (y ∷ ys) zero x e = omega arith
 get-within (y ∷ ys) (suc i) x e = let l = get-within ys i x e in omega arith
-
-pub get-some : {A : Type 0} (xs : List A) (i : ℕ) → i < length xs → (x : A) × (slice_get xs i ≡ Some x)
-get-some [] i l = absurd (omega arith)
-get-some (x ∷ xs) zero l = (x, refl)
-get-some (x ∷ xs) (suc i) l = get-some xs i (omega arith)
-
--- ---- receivers
-
--- one more of them
-pub ArePlaces-push : (places nodes ids : List ℕ) (place id : ℕ) → ArePlaces places nodes ids → place < length nodes → slice_index nodes place ≡ id →
-    ArePlaces (places ++ place ∷ []) nodes (ids ++ id ∷ [])
-ArePlaces-push places nodes ids place id h l is = record {
-  within = All-push (λ (p : ℕ). p < length nodes) places place h.within l;
-  are = map-append (slice_index nodes) places (place ∷ []) ∙ ap (λ xs. xs ++ slice_index nodes place ∷ []) h.are ∙ ap (λ x. ids ++ x ∷ []) is;
-}
-
-pub receivers-count : (places nodes : List ℕ) (sent : List Envelope) → ArePlaces places nodes (receivers_of sent) → length places ≡ length sent
-receivers-count places nodes sent h =
-    sym (length-map places (slice_index nodes)) ∙ ap length h.are ∙ length-map sent (λ (d : Envelope). d.receiver)
-
--- where a message's receiver stands
-pub receiver-at : (places nodes : List ℕ) (sent : List Envelope) (m : ℕ) (v : Envelope) → ArePlaces places nodes (receivers_of sent) →
-    slice_get sent m ≡ Some v →
-    (slice_index places m < length nodes) × (slice_index nodes (slice_index places m) ≡ v.receiver)
-receiver-at places nodes sent m v h e =
-    let count : length places ≡ length sent = receivers-count places nodes sent h in
-    let sent_within = get-within sent m v e in
-    let l : m < length places = omega arith in
-    (h.within m 0 l, mapped (slice_index nodes) (λ (d : Envelope). d.receiver) places sent m v h.are l e)
-  where
-    mapped : {A B : Type 0} (f : ℕ → B) (g : A → B) (xs : List ℕ) (ys : List A) (k : ℕ) (y : A) → map f xs ≡ map g ys → k < length xs →
-        slice_get ys k ≡ Some y →
-        f (slice_index xs k) ≡ g y
-    mapped f g [] ys k y e l h = absurd (omega arith)
-    mapped f g (x ∷ xs) [] k y e l h = cc
-    mapped f g (x ∷ xs) (z ∷ ys) zero y e l h = let a : f x ≡ g z = cc in let b : z ≡ y = cc in a ∙ ap g b
-    mapped f g (x ∷ xs) (z ∷ ys) (suc k) y e l h = let t : map f xs ≡ map g ys = cc in mapped f g xs ys k y t (omega arith) h
 
 -- ---- marks
 
@@ -140,14 +100,12 @@ still-marked : (v : Event) (xs : List Bool) (n m : ℕ) → IsBelow (length xs) 
     get_or (marked (delivered_by v) xs ++ replicate n false) m false ≡ true
 still-marked v xs n m l e = read-more (marked (delivered_by v) xs) n m ∙ read-marked v xs m l ∙ ap (λ b. b || is_delivery_of m v) e
 
-pub ListsMessages-more : (a b : Messages) (nodes : List ℕ) (es : List Entry) (e : Entry) → IsBelow (length a.delivered.items) (delivered_by e.event) →
-    ArePlaces b.receivers.items nodes (receivers_of (sent_in (es ++ e ∷ []))) →
+pub ListsMessages-more : (a b : Messages) (es : List Entry) (e : Entry) → IsBelow (length a.delivered.items) (delivered_by e.event) →
     b.delivered.items ≡ marked (delivered_by e.event) a.delivered.items ++ replicate (length e.messages) false →
     b.oldest ≤ length b.delivered.items → ((m : ℕ) → a.oldest ≤ m → m < b.oldest → get_or b.delivered.items m false ≡ true) →
     get_or b.delivered.items b.oldest false ≡ false →
-    ListsMessages a nodes es → ListsMessages b nodes (es ++ e ∷ [])
-ListsMessages-more a b nodes es e l receivers marks within before here h = record {
-  receivers = receivers;
+    ListsMessages a es → ListsMessages b (es ++ e ∷ [])
+ListsMessages-more a b es e l marks within before here h = record {
   marks = subst (λ ms. HasMarks ms (es ++ e ∷ [])) (sym marks) (HasMarks-more a.delivered.items es e l h.marks);
   oldest = record {
     within = within;
@@ -171,8 +129,8 @@ undelivered-skip w m (suc k) n h =
 undelivered-here : (w : World) (m n : ℕ) → is_delivered w.past m ≡ false → undelivered_from w m (suc n) ≡ Some m
 undelivered-here w m n f = ap (λ c. cond c (undelivered_from w (suc m) n) (Some m)) f
 
-pub oldest-listed : (w : World) (a : Messages) (nodes : List ℕ) → ListsMessages a nodes w.past → oldest_of a ≡ oldest_undelivered w
-oldest-listed w a nodes h =
+pub oldest-listed : (w : World) (a : Messages) → ListsMessages a w.past → oldest_of a ≡ oldest_undelivered w
+oldest-listed w a h =
     let count = h.marks.count in
     let within = h.oldest.within in
     let skip : (n : ℕ) → undelivered_from w 0 (a.oldest + n) ≡ undelivered_from w a.oldest n =

@@ -14,8 +14,7 @@ use Rattle.overlay_rules.specs.Record.{state_at, world_at_start}
 use Rattle.overlay_rules.specs.Played.{entry_at, entry_of, happened, oldest_undelivered}
 use Rattle.overlay_rules.proofs.Histories.{run-push, past_of_run, LegalFrom-push}
 use Rattle.world_model.specs.Recorded.{Recorded, setting_of, world_of, with_event}
-use Rattle.step_facts.specs.Receivers.{ReceiversAre, ViaIs, ViasAre}
-use Rattle.step_facts.proofs.Receivers.{receivers_are_nodes}
+use Rattle.step_facts.specs.Receivers.{ViaIs, ViasAre}
 use Rattle.world_model.specs.Numbers.{IsNumberedBelow, IsNewest}
 use Rattle.world_model.specs.Stamps.{AreStamped, AreStampedFrom}
 use Rattle.world_model.specs.Worlds.{IsWorld, ComesTo, entry_by}
@@ -23,7 +22,7 @@ use Rattle.world_model.specs.Cells.{AllStand}
 use Rattle.world_model.specs.Index.{ListsMessages, IsBelow, delivered_by, oldest_of}
 use Rattle.world_model.specs.declared.index.Messages.{Messages}
 use Rattle.world_model.proofs.Finding.{index-or}
-use Rattle.world_model.proofs.Listing.{oldest-listed, get-within, get-some, receiver-at}
+use Rattle.world_model.proofs.Listing.{oldest-listed, get-within}
 use Rattle.node_parts.specs.declared.node.Node.{Node}
 
 -- ---- the world after it
@@ -120,8 +119,8 @@ stamps-with_event r v x i e h =
 
 -- ---- what a world keeps
 
-pub oldest-of : (r : Recorded) (a : Messages) → ListsMessages a r.nodes r.entries → oldest_of a ≡ oldest_undelivered (world_of r)
-oldest-of r a h = oldest-listed (world_of r) a r.nodes (subst (ListsMessages a r.nodes) (sym (past-of r)) h)
+pub oldest-of : (r : Recorded) (a : Messages) → ListsMessages a r.entries → oldest_of a ≡ oldest_undelivered (world_of r)
+oldest-of r a h = oldest-listed (world_of r) a (subst (ListsMessages a) (sym (past-of r)) h)
 
 -- after the event the record is legal, and its joiners go by nodes
 pub legal-with_event : (nodes : List Node) (a : Messages) (r : Recorded) (v : Event) (place : ℕ) → IsWorld nodes a r → ComesTo r v place →
@@ -135,7 +134,7 @@ legal-with_event nodes a r v place w c f s =
 pub IsWorld-with_event : (nodes new : List Node) (a b : Messages) (r : Recorded) (v : Event) (place : ℕ) → IsWorld nodes a r → (c : ComesTo r v place) →
     IsFresh r.entries v → IsSaidBy v → ViaIs (setting_of r) v →
     AllStand new (state_at (world_of r).states (slice_index r.nodes place) (step ((world_of r).states (slice_index r.nodes place)) c.input).state) →
-    ListsMessages b r.nodes (with_event r v).entries → IsWorld new b (with_event r v)
+    ListsMessages b (with_event r v).entries → IsWorld new b (with_event r v)
 IsWorld-with_event nodes new a b r v place w c f s m st l =
     record {
       legal = legal-with_event nodes a r v place w c f s;
@@ -144,13 +143,6 @@ IsWorld-with_event nodes new a b r v place w c f s m st l =
       stand = subst (AllStand new) (sym (states-with_event r v (slice_index r.nodes place) c.input c.is_at)) st;
       listed = l;
     }
-
--- its receivers are nodes
-pub receivers-with_event : (nodes : List Node) (a : Messages) (r : Recorded) (v : Event) (place : ℕ) → IsWorld nodes a r → ComesTo r v place →
-    IsFresh r.entries v → IsSaidBy v → ViaIs (setting_of r) v → ReceiversAre (setting_of r) (with_event r v).entries
-receivers-with_event nodes a r v place w c f s m =
-    receivers_are_nodes (setting_of r) (with_event r v).entries (legal-with_event nodes a r v place w c f s)
-    (vias-with_event r v (slice_index r.nodes place) c.input c.is_at m w.vias)
 
 -- an event comes from what was sent
 pub comes-below : (r : Recorded) (v : Event) (place : ℕ) → ComesTo r v place → IsBelow (length (sent_in r.entries)) (delivered_by v)
@@ -172,13 +164,11 @@ pub noise-comes : (r : Recorded) (x place : ℕ) → place < length r.nodes → 
 noise-comes r x place l e = record { within = l; input = NoFrame; is_at = ap (λ y. Some (record { node = y; input = NoFrame })) (sym e) }
 
 -- a message that was sent comes to its receiver's place
-pub delivery-comes : (nodes : List Node) (a : Messages) (r : Recorded) (m : ℕ) → IsWorld nodes a r → m < length (sent_in r.entries) →
-    ComesTo r (event.Deliver m) (slice_index a.receivers.items m)
-delivery-comes nodes a r m w l =
-    let found = get-some (sent_in r.entries) m l in
-    let at = receiver-at a.receivers.items r.nodes (sent_in r.entries) m found.0 w.listed.receivers found.1 in
-    record {
-      within = at.0;
-      input = Comes found.0.sender found.0.message;
-      is_at = ap visit_of found.1 ∙ ap (λ x. Some (record { node = x; input = Comes found.0.sender found.0.message })) (sym at.1);
-    }
+pub delivery-comes : (r : Recorded) (m place : ℕ) (v : Envelope) → slice_get (sent_in r.entries) m ≡ Some v → place < length r.nodes →
+    slice_index r.nodes place ≡ v.receiver →
+    ComesTo r (event.Deliver m) place
+delivery-comes r m place v found l e = record {
+  within = l;
+  input = Comes v.sender v.message;
+  is_at = ap visit_of found ∙ ap (λ x. Some (record { node = x; input = Comes v.sender v.message })) (sym e);
+}

@@ -1,9 +1,7 @@
--- Whom the messages of a record go to, and which of them were delivered.
-use Rattle.std.specs.Prelude.{◌≡◌, ◌<◌, ◌≤◌, ◌+◌, ℕ, Bool, true, false, Option, Some, None, List, All, length, map, slice_index, slice_index_or}
+-- Which messages of a record were delivered.
+use Rattle.std.specs.Prelude.{◌≡◌, ◌<◌, ◌≤◌, ◌+◌, ℕ, Bool, true, false, Option, Some, None, List, length, slice_index_or}
 use Rattle.std.specs.Prelude.{slice_set, vec_len, vec_capacity, if◌then◌else◌, nat_lt}
 use Rattle.std.specs.List.{list_any}
-use Rattle.ring_math.specs.Names.{Id}
-use Rattle.wire_msg.specs.Words.{Envelope}
 use Rattle.overlay_rules.specs.declared.entry.Event.{Event}
 use Rattle.overlay_rules.specs.declared.entry.Event.TheVariants as event
 use Rattle.overlay_rules.specs.declared.entry.Entry.{Entry}
@@ -14,15 +12,6 @@ use Rattle.world_model.specs.declared.index.Messages.{Messages}
 -- message m was delivered by one of the entries
 abbrev pub is_delivered : List Entry → ℕ → Bool
 is_delivered es m = list_any (λ e. is_delivery_of m e.event) es
-
--- these are the places of these nodes
-pub record ArePlaces (places : List ℕ) (nodes ids : List Id) : Type 0 where
-  pub within : All (λ place. place < length nodes) places
-  pub are : map (slice_index nodes) places ≡ ids
-
--- whom messages go to
-abbrev pub receivers_of : List Envelope → List Id
-receivers_of sent = map (λ v. v.receiver) sent
 
 -- each message has its mark: whether it was delivered
 pub record HasMarks (marks : List Bool) (es : List Entry) : Type 0 where
@@ -35,15 +24,13 @@ pub record IsFirstUnmarked (marks : List Bool) (place : ℕ) : Type 0 where
   pub before : (m : ℕ) → m < place → slice_index_or marks m false ≡ true
   pub here : slice_index_or marks place false ≡ false
 
--- the messages of a record among these nodes
-pub record ListsMessages (a : Messages) (nodes : List Id) (es : List Entry) : Type 0 where
-  pub receivers : ArePlaces a.receivers.items nodes (receivers_of (sent_in es))
+-- the messages of a record
+pub record ListsMessages (a : Messages) (es : List Entry) : Type 0 where
   pub marks : HasMarks a.delivered.items es
   pub oldest : IsFirstUnmarked a.delivered.items a.oldest
 
 -- there is room for so many more
 pub record HasRoom (a : Messages) (count : ℕ) : Type 0 where
-  pub receivers : vec_len a.receivers + count ≤ vec_capacity a.receivers
   pub marks : vec_len a.delivered + count ≤ vec_capacity a.delivered
 
 -- the message that an event delivers

@@ -19,7 +19,7 @@ pub record IsWorld (nodes : List Node) (messages : Messages) (r : Recorded) : Ty
   pub vias : ViasAre (setting_of r) r.entries
   pub stamps : AreStamped r.entries
   pub stand : AllStand nodes (world_of r).states
-  pub listed : ListsMessages messages r.nodes r.entries
+  pub listed : ListsMessages messages r.entries
 
 -- the event comes to the node at this place
 pub record ComesTo (r : Recorded) (v : Event) (place : ℕ) : Type 0 where

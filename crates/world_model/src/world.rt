@@ -95,7 +95,7 @@ impl World {
         if message >= self.sent_len() {
             return Ok(false);
         }
-        let place = self.messages.receiver(message as usize);
+        let place = self.receiver(message);
         self.happen(alloc, place, Event::Deliver { message })?;
         Ok(true)
     }
@@ -165,6 +165,15 @@ impl World {
         self.cells.next_hop(self.cells.place(node), key)
     }
 
+    /// The place of the node that a message goes to.
+    fn receiver(&self, message: u64) -> usize
+        requires { message < length (sent_in self.now.entries) }
+        ensures { ComesTo self.now (event.Deliver message) result }
+    {
+        let envelope = &self.entries.sent()[message as usize];
+        self.cells.place(envelope.receiver)
+    }
+
     /// An event comes to the node at a place: its step is made, and its entry is added.
     fn happen(&mut self, alloc: Global, place: usize, event: Event) -> Result<(), OutOfMemory>
         requires comes { ComesTo self.old event place }
@@ -181,13 +190,13 @@ impl World {
             notes,
             change,
         } = self.cells.prepare(place, alloc, &input)?;
-        self.messages.reserve(messages.as_slice().len())?;
+        let count = messages.as_slice().len();
+        self.messages.reserve(count)?;
         let stamp = self.entries.next_stamp();
         self.entries
             .add(event, stamp, self.cells.id(place), messages, notes)?;
         self.cells.commit(place, change);
-        self.messages
-            .add(&self.cells, delivered, self.entries.sent());
+        self.messages.add(delivered, count);
         Ok(())
     }
 }

@@ -1,6 +1,6 @@
 //! Inserts.
 
-ghost use Rattle.std.specs.Prelude.{◌≡◌, [], true, IfOk, IfErr, List, ℕ};
+ghost use Rattle.std.specs.Prelude.{◌≡◌, [], true, IfOk, IfErr, List};
 ghost use Rattle.ring_math.specs.declared.file.Held.{Held};
 ghost use Rattle.ring_math.specs.Files.{slot_of};
 ghost use Rattle.wire_msg.specs.Words.{Replicate};
@@ -14,7 +14,7 @@ ghost use Rattle.node_parts.specs.Plans.{Plans};
 ghost use Rattle.node_core.specs.Rows.{IsRow};
 ghost use Rattle.node_core.specs.Replies.{IsReply};
 
-use crate::request::{Request, Served};
+use crate::request::{Request, Served, served};
 use crate::sends::sent_to_each;
 use file_store::Put;
 use node_parts::{Change, Node, PastChange, Prepared, StoreChange, one_more};
@@ -221,8 +221,7 @@ pub(crate) fn on_insert(
 ) -> Result<Prepared, OutOfMemory>
     ensures { IsRow node.now request.now.wait (λ s. on_insert_of s request.now.origin request.now.number hops file.now copies bytes.now) result }
 {
-    let served = request.served(node, alloc, Asked::Insert, key_of(file))?;
-    match served {
+    match served(node, key_of(file)) {
         Served::Here => insert_here(node, alloc, request, file, copies, bytes),
         Served::On { node: next } => {
             let message = Message::Insert {
@@ -235,6 +234,6 @@ pub(crate) fn on_insert(
             };
             request.passed_on(alloc, next, message)
         }
-        Served::Refused(prepared) => Ok(prepared),
+        Served::Refused { reply } => request.replied(alloc, Asked::Insert, reply),
     }
 }

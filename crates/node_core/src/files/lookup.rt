@@ -1,6 +1,6 @@
 //! Lookups.
 
-ghost use Rattle.std.specs.Prelude.{◌≡◌, [], ◌∷◌, IfOk};
+ghost use Rattle.std.specs.Prelude.{[], ◌∷◌, IfOk};
 ghost use Rattle.wire_msg.specs.declared.note.Note.TheVariants as note;
 ghost use Rattle.wire_msg.specs.declared.reply.Reply.TheVariants as reply;
 ghost use Rattle.overlay_rules.specs.State.{State};
@@ -10,7 +10,7 @@ ghost use Rattle.node_parts.specs.Change.{waited};
 ghost use Rattle.node_parts.specs.Plans.{Plans};
 ghost use Rattle.node_core.specs.Rows.{IsRow};
 
-use crate::request::{Request, Served};
+use crate::request::{Request, Served, served};
 use node_parts::{Change, Node, Prepared, one_more};
 use overlay_rules::Asked;
 use ring_math::{Id, OutOfMemory};
@@ -61,8 +61,7 @@ pub(crate) fn on_lookup(
 ) -> Result<Prepared, OutOfMemory>
     ensures { IsRow node.now request.now.wait (λ s. on_lookup_of s request.now.origin request.now.number key hops) result }
 {
-    let served = request.served(node, alloc, Asked::Lookup, key)?;
-    match served {
+    match served(node, key) {
         Served::Here => delivered(node.me, alloc, request, key, hops),
         Served::On { node: next } => {
             let message = Message::Lookup {
@@ -73,6 +72,6 @@ pub(crate) fn on_lookup(
             };
             request.passed_on(alloc, next, message)
         }
-        Served::Refused(prepared) => Ok(prepared),
+        Served::Refused { reply } => request.replied(alloc, Asked::Lookup, reply),
     }
 }

@@ -1,6 +1,6 @@
 //! A join begins: the command, the request on its way, and its answer at the node that covers the joiner.
 
-ghost use Rattle.std.specs.Prelude.{◌≡◌, IfOk, List, ℕ, [], ◌∷◌};
+ghost use Rattle.std.specs.Prelude.{IfOk, List, ℕ, [], ◌∷◌};
 ghost use Rattle.overlay_rules.specs.Joining.{on_join as on_join_of, stopped as stopped_of};
 ghost use Rattle.overlay_rules.specs.Routed.{on_join_request as on_join_request_of, join_request_by, members};
 ghost use Rattle.overlay_rules.specs.Outcome.{becomes, sent};

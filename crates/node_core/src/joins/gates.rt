@@ -1,7 +1,7 @@
 //! What becomes of a gate: it is released, confirmed, or taken away for a newer attempt.
 
 ghost use Rattle.std.specs.Prelude.{◌≡◌, IfOk, List, ℕ, []};
-ghost use Rattle.overlay_rules.specs.State.{State, Ready, attempt_of};
+ghost use Rattle.overlay_rules.specs.State.{Ready, attempt_of};
 ghost use Rattle.overlay_rules.specs.Gates.{is_of, is_older};
 ghost use Rattle.overlay_rules.specs.Gatekeeper.{unless_lease, links_of as links_of_state, on_release as on_release_of, on_confirm as on_confirm_of, cleared};
 ghost use Rattle.node_parts.specs.Change.{gate_after, changed};

@@ -1,11 +1,10 @@
-use Rattle.std.proofs.Common.{◌≡◌, ◌∙◌, ◌+◌, ◌++◌, ◌∷◌, [], Some, List, All, Contains, map, option_map, slice_get, take, sym, subst, ap, arith}
+use Rattle.std.proofs.Common.{◌≡◌, ◌∙◌, ◌+◌, ◌++◌, ◌∷◌, [], Some, List, All, option_map, slice_get, take, sym, subst, ap, arith}
 use Rattle.std.proofs.lemmas.List.{map_more, take_all}
 use Rattle.std.proofs.lemmas.List.Elements.{All-push}
 use Rattle.std.proofs.lemmas.Option.{slice_get-get_or, slice_get-map}
 use Rattle.wire_msg.specs.Words.{Envelope}
-use Rattle.weave_laws.specs.Cells.{CellEntry, History}
+use Rattle.weave_laws.specs.Cells.{History}
 use Rattle.node_cell.specs.Cell.{Cell}
-use Rattle.node_cell.specs.Entries.{plain_history}
 use Rattle.weave.specs.ByStamp.{kept_in}
 use Rattle.weave.specs.Cells.{histories, kept_history}
 use Rattle.weave.specs.Taken.{SentMissing}

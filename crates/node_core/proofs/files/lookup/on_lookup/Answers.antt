@@ -1,4 +1,4 @@
-use Rattle.std.proofs.Common.{[], ◌∷◌, IfOk, subst}
+use Rattle.std.proofs.Common.{[], ◌∷◌, IfOk, subst, sym}
 use Rattle.wire_msg.specs.Words.{Lookup}
 use Rattle.overlay_rules.specs.declared.request.Asked.TheVariants as asked
 use Rattle.overlay_rules.specs.declared.request.Way.TheVariants as way
@@ -9,7 +9,6 @@ use Rattle.node_parts.specs.Change.{waited}
 use Rattle.node_parts.specs.Seen.{seen}
 use Rattle.node_parts.specs.Plans.{Plans}
 use Rattle.node_core.specs.declared.request.Request.{Request}
-use Rattle.node_core.specs.Served.{IsServed}
 use Rattle.node_core.proofs.Routing.{lookup-at, lookup-refused}
 use Rattle.node_core.proofs.files.lookup.on_lookup.Goals as goal
 
@@ -19,7 +18,7 @@ returns-in-Here c = λ known h.
     let r : Request = c.args.request.now in
     let s : State = seen n known in
     lookup-at (λ (o : Outcome). IfOk c.delivered.result (λ p. Plans s p o)) (waited r.wait s) r.origin r.number c.args.key c.args.hops way.Here
-    (subst (IsServed n r asked.Lookup c.args.key) c.in-Here.is c.in_ok-served.ensures known h)
+    (c.in-Here.ensures r known h)
     (c.delivered.ensures s)
 
 pub returns-in-On : goal.returns-in-On
@@ -28,15 +27,15 @@ returns-in-On c = λ known h.
     let r : Request = c.args.request.now in
     let s : State = seen n known in
     lookup-at (λ (o : Outcome). IfOk c.passed_on.result (λ p. Plans s p o)) (waited r.wait s) r.origin r.number c.args.key c.args.hops (way.To c.in-On.next)
-    (subst (IsServed n r asked.Lookup c.args.key) c.in-On.is c.in_ok-served.ensures known h)
+    (c.in-On.ensures r known h)
     (subst (λ m. IfOk c.passed_on.result (λ p. Plans s p (becomes (waited r.wait s) (sent c.in-On.next (Lookup r.origin r.number c.args.key m) ∷ []) [])))
     c.one_more.ensures
     (c.passed_on.ensures s))
 
 pub returns-in-Refused : goal.returns-in-Refused
 returns-in-Refused c = λ known h.
-    let n : Node = c.args.node.now in
     let r : Request = c.args.request.now in
-    let s : State = seen n known in
-    lookup-refused (λ (o : Outcome). Plans s c.in-Refused.prepared o) (waited r.wait s) r.origin r.number c.args.key c.args.hops
-    (subst (IsServed n r asked.Lookup c.args.key) c.in-Refused.is c.in_ok-served.ensures known h)
+    let s : State = seen c.args.node.now known in
+    let P : Outcome → Type 0 = λ o. IfOk c.replied.result (λ p. Plans s p o) in
+    lookup-refused P (waited r.wait s) r.origin r.number c.args.key c.args.hops
+    (λ next here. subst P (sym (c.in-Refused.ensures r known h asked.Lookup next here)) (c.replied.ensures s))

@@ -1,8 +1,6 @@
 use Rattle.std.proofs.Common.{◌≡◌, ◌++◌, OnOk, List, filter, sym, ap, ◌∙◌, subst}
-use Rattle.overlay_rules.specs.State.{State}
 use Rattle.overlay_rules.specs.Outcome.{Outcome}
 use Rattle.overlay_rules.specs.Gatekeeper.{is_left_to}
-use Rattle.overlay_rules.specs.Roots.{replied_each}
 use Rattle.overlay_rules.specs.declared.request.Pending.{Pending}
 use Rattle.past_core.specs.Replied.{replied_asks}
 use Rattle.past_core.proofs.Replied.{replied-asks}

@@ -20,7 +20,7 @@ use Rattle.world_model.proofs.MoreEvents.{IsWorld-with_event, comes-below, recei
 use Rattle.world_model.proofs.Listing.{receivers-count}
 use Rattle.world_model.proofs.Happening.{IsWorld-kept, entry-made, more-sent}
 use Rattle.world_model.proofs.world.World.happen.Goals as goal
-use Rattle.world_model.proofs.world.World.happen.Goals.{After-sent}
+use Rattle.world_model.proofs.world.World.happen.Goals.{After-commit}
 
 pub input_of-input-requires : goal.input_of-input-requires
 input_of-input-requires c =
@@ -39,31 +39,31 @@ invariant_of-self-in_err-add c =
 
 -- ---- the record before, and the event that comes to it
 
-abbrev past : (c : After-sent) → Recorded
+abbrev past : (c : After-commit) → Recorded
 past c = record { nodes = ids_of c.self.inside.cells; founder = c.self.inside.founder; entries = c.self.inside.entries }
 
-comes : (c : After-sent) → ComesTo (past c) c.args.event c.args.place
+comes : (c : After-commit) → ComesTo (past c) c.args.event c.args.place
 comes c = subst (λ (q : Recorded). ComesTo q c.args.event c.args.place) (sym c.self.view_is) c.requires.comes
 
-fresh : (c : After-sent) → IsFresh (past c).entries c.args.event
+fresh : (c : After-commit) → IsFresh (past c).entries c.args.event
 fresh c = subst (λ (q : Recorded). IsFresh q.entries c.args.event) (sym c.self.view_is) c.requires.fresh
 
-via : (c : After-sent) → ViaIs (setting_of (past c)) c.args.event
+via : (c : After-commit) → ViaIs (setting_of (past c)) c.args.event
 via c = subst (λ (q : Recorded). ViaIs (setting_of q) c.args.event) (sym c.self.view_is) c.requires.via
 
-abbrev node : (c : After-sent) → ℕ
+abbrev node : (c : After-commit) → ℕ
 node c = slice_index (past c).nodes c.args.place
 
-same_input : (c : After-sent) → plain_input c.input_of-input.result ≡ (comes c).input
+same_input : (c : After-commit) → plain_input c.input_of-input.result ≡ (comes c).input
 same_input c = c.input_of-input.ensures (record { node = node c; input = (comes c).input }) (comes c).is_at
 
 -- ---- what was prepared, and the entry that is made of it
 
-plans : (c : After-sent) →
+plans : (c : After-commit) →
     Plans ((world_of (past c)).states (node c)) c.in_ok-messages.field-0 (step ((world_of (past c)).states (node c)) (plain_input c.input_of-input.result))
 plans c = c.in_ok-messages.ensures.plans (world_of (past c)).states c.self.invariant.stand
 
-abbrev entry : (c : After-sent) → Entry
+abbrev entry : (c : After-commit) → Entry
 entry c =
     record {
       event = c.args.event;
@@ -71,22 +71,22 @@ entry c =
       notes = c.in_ok-messages.field-0.notes;
     }
 
-entry_is : (c : After-sent) → entry c ≡ entry_of (world_of (past c)) c.args.event
+entry_is : (c : After-commit) → entry c ≡ entry_of (world_of (past c)) c.args.event
 entry_is c =
     entry-made (past c) c.args.event c.args.place (comes c) c.in_ok-messages.field-0 (plain_input c.input_of-input.result) c.next_stamp-stamp.result c.id.result
     (same_input c) (plans c) c.next_stamp-stamp.ensures
     (c.id.ensures ∙ ap (λ (ids : List ℕ). slice_index ids c.args.place) c.prepare.ensures.ids)
 
-added : (c : After-sent) → c.add.new.self ≡ (past c).entries ++ entry c ∷ []
+added : (c : After-commit) → c.add.new.self ≡ (past c).entries ++ entry c ∷ []
 added c = c.in_ok-add.ensures.ok
 
-grown : (c : After-sent) → c.add.new.self ≡ (with_event (past c) c.args.event).entries
+grown : (c : After-commit) → c.add.new.self ≡ (with_event (past c) c.args.event).entries
 grown c = added c ∙ ap (λ (e : Entry). (past c).entries ++ e ∷ []) (entry_is c)
 
-nodes_stay : (c : After-sent) → ids_of c.commit.new.self ≡ (past c).nodes
+nodes_stay : (c : After-commit) → ids_of c.commit.new.self ≡ (past c).nodes
 nodes_stay c = c.commit.ensures.ids ∙ c.prepare.ensures.ids
 
-same : (c : After-sent) → (record { nodes = ids_of c.commit.new.self; founder = c.self.inside.founder; entries = c.add.new.self })
+same : (c : After-commit) → (record { nodes = ids_of c.commit.new.self; founder = c.self.inside.founder; entries = c.add.new.self })
     ≡ with_event (past c) c.args.event
 same c =
     ap (λ (ids : List ℕ). record { nodes = ids; founder = c.self.inside.founder; entries = c.add.new.self }) (nodes_stay c)
@@ -94,29 +94,11 @@ same c =
 
 -- ---- the messages, with those of the entry
 
-listed : (c : After-sent) → ListsMessages c.reserve.new.self (past c).nodes (past c).entries
-listed c = c.reserve.ensures.kept (past c).nodes (past c).entries c.self.invariant.listed
-
-sent : (c : After-sent) → length c.sent.result.now ≡ length c.reserve.new.self.receivers.items + length (entry c).messages
-sent c = more-sent c.reserve.new.self (past c).nodes (past c).entries c.add.new.self (entry c) c.sent.result.now (listed c) (added c) c.sent.ensures
-
-pub add-requires-2-clause-more : goal.add-requires-2-clause-more
-add-requires-2-clause-more c = let s = sent c in let v = c.reserve.new.self.receivers.ok.0 in omega arith
-
-pub add-requires-2-clause-same : goal.add-requires-2-clause-same
-add-requires-2-clause-same c =
-    c.reserve.new.self.receivers.ok.0
-    ∙ receivers-count c.reserve.new.self.receivers.items (past c).nodes (sent_in (past c).entries) (listed c).receivers
-    ∙ sym (listed c).marks.count ∙ sym c.reserve.new.self.delivered.ok.0
+listed : (c : After-commit) → ListsMessages c.reserve.new.self (past c).entries
+listed c = c.reserve.ensures.kept (past c).entries c.self.invariant.listed
 
 pub add-requires-2-clause-room : goal.add-requires-2-clause-room
-add-requires-2-clause-room c =
-    let count : length (entry c).messages ≡ length c.as_slice.result.now =
-    length-map c.in_ok-messages.field-0.messages (enveloped c.next_stamp-stamp.result c.id.result) ∙ ap length (sym c.as_slice.ensures)
-    ∙ length-map c.as_slice.result.now plain_sent in
-    let rest : length c.as_slice.result.now ≡ length c.sent.result.now - vec_len c.reserve.new.self.receivers =
-    let s = sent c in let v = c.reserve.new.self.receivers.ok.0 in omega arith in
-    subst (λ (k : ℕ). HasRoom c.reserve.new.self k) rest c.in_ok-reserve.ensures.room
+add-requires-2-clause-room c = c.in_ok-reserve.ensures.room
 
 pub add-requires-2-clause-below : goal.add-requires-2-clause-below
 add-requires-2-clause-below c =
@@ -124,16 +106,9 @@ add-requires-2-clause-below c =
     (subst (λ (k : ℕ). IsBelow k (delivered_by c.args.event)) (sym (c.reserve.new.self.delivered.ok.0 ∙ (listed c).marks.count))
     (comes-below (past c) c.args.event c.args.place (comes c)))
 
-pub add-requires-2-clause-nodes : goal.add-requires-2-clause-nodes
-add-requires-2-clause-nodes c =
-    subst (λ (vs : List Envelope). All (λ (v : Envelope). Contains (ids_of c.commit.new.self) v.receiver) vs) (sym (c.sent.ensures ∙ ap sent_in (grown c)))
-    (subst (λ (ids : List ℕ). All (λ (v : Envelope). Contains ids v.receiver) (sent_in (with_event (past c) c.args.event).entries)) (sym (nodes_stay c))
-    (receivers-with_event c.self.inside.cells c.self.inside.messages (past c) c.args.event c.args.place c.self.invariant (comes c) (fresh c)
-    c.said_law.ensures (via c)))
-
 -- ---- the world after it
 
-stands : (c : After-sent) →
+stands : (c : After-commit) →
     AllStand c.commit.new.self (state_at (world_of (past c)).states (node c) (step ((world_of (past c)).states (node c)) (comes c).input).state)
 stands c =
     let states : ℕ → State = (world_of (past c)).states in
@@ -147,17 +122,17 @@ stands c =
 
 pub invariant_of-self-2 : goal.invariant_of-self-2
 invariant_of-self-2 c =
-    let b : After-sent = (goal.at.invariant_of-self-2 c).After-sent in
-    let lists : ListsMessages c.add-2.new.self (ids_of c.commit.new.self) ((past b).entries ++ entry b ∷ []) =
-    c.add-2.ensures (past b).entries (entry b)
-    (subst (λ (ids : List ℕ). ListsMessages c.reserve.new.self ids (past b).entries) (sym (nodes_stay b)) (listed b))
-    c.delivered_message-delivered.ensures (c.sent.ensures ∙ ap sent_in (added b)) in
+    let b : After-commit = (goal.at.invariant_of-self-2 c).After-commit in
+    let count : c.len-count.result ≡ length (entry b).messages =
+    c.len-count.ensures ∙ sym (length-map c.as_slice.result.now plain_sent) ∙ ap length c.as_slice.ensures
+    ∙ sym (length-map c.in_ok-messages.field-0.messages (enveloped c.next_stamp-stamp.result c.id.result)) in
+    let lists : ListsMessages c.add-2.new.self ((past b).entries ++ entry b ∷ []) =
+    c.add-2.ensures (past b).entries (entry b) (listed b) c.delivered_message-delivered.ensures count in
     subst (λ (q : Recorded). IsWorld c.commit.new.self c.add-2.new.self q) (sym (same b))
     (IsWorld-with_event c.self.inside.cells c.commit.new.self c.self.inside.messages c.add-2.new.self (past b) c.args.event c.args.place c.self.invariant
     (comes b) (fresh b) c.said_law.ensures (via b) (stands b)
-    (subst (λ (ids : List ℕ). ListsMessages c.add-2.new.self ids (with_event (past b) c.args.event).entries) (nodes_stay b)
-    (subst (λ (e : Entry). ListsMessages c.add-2.new.self (ids_of c.commit.new.self) ((past b).entries ++ e ∷ [])) (entry_is b) lists)))
+    (subst (λ (e : Entry). ListsMessages c.add-2.new.self ((past b).entries ++ e ∷ [])) (entry_is b) lists))
 
 pub returns-clause-ok : goal.returns-clause-ok
 returns-clause-ok c =
-    same (goal.at.returns-clause-ok c).After-sent ∙ ap (λ (q : Recorded). with_event q c.args.event) c.self.view_is
+    same (goal.at.returns-clause-ok c).After-commit ∙ ap (λ (q : Recorded). with_event q c.args.event) c.self.view_is
