@@ -1,7 +1,6 @@
 //! The arrows of messages.
 
-ghost use Rattle.std.specs.Prelude.{◌≡◌, ◌<◌, ◌++◌, Bool, drop, flat_map, if◌then◌else◌, length, map, slice_get, take, IfOk, OnOk};
-ghost use Rattle.wire_msg.specs.Words.{plain_envelope};
+ghost use Rattle.std.specs.Prelude.{◌≡◌, ◌<◌, ◌++◌, drop, if◌then◌else◌, length, slice_get, take, IfOk, OnOk};
 ghost use Rattle.overlay_rules.specs.Record.{sent_in};
 ghost use Rattle.overlay_rules.specs.Seen.{event_seen};
 ghost use Rattle.svg_text.specs.Picture.{each_of, text_of};

@@ -1,6 +1,5 @@
 //! How messages fared.
 
-ghost use Rattle.wire_msg.specs.Words.{plain_envelope};
 
 use wire_msg::Envelope;
 

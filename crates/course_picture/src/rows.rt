@@ -1,9 +1,7 @@
 //! The rows of entries, and the lifelines of nodes.
 
-ghost use Rattle.std.specs.Prelude.{◌≡◌, ◌<◌, ◌+◌, ◌++◌, Some, decimal, map, slice_get, IfOk, OnOk};
-ghost use Rattle.wire_msg.specs.Words.{plain_envelope};
-ghost use Rattle.overlay_rules.specs.Record.{sent_in, visit};
-ghost use Rattle.overlay_rules.specs.Seen.{entry_seen, event_seen};
+ghost use Rattle.std.specs.Prelude.{◌≡◌, ◌<◌, ◌+◌, ◌++◌, Some, decimal, IfOk, OnOk};
+ghost use Rattle.overlay_rules.specs.Seen.{entry_seen};
 ghost use Rattle.delivery_report.specs.Deliveries.{node_of};
 ghost use Rattle.svg_text.specs.Picture.{each_of, text_of};
 ghost use Rattle.course_picture.specs.Board.{places};

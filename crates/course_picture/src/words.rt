@@ -1,9 +1,8 @@
 //! The words beside an entry.
 
-ghost use Rattle.std.specs.Prelude.{◌≡◌, ◌++◌, map, slice_get, OnOk};
+ghost use Rattle.std.specs.Prelude.{◌≡◌, ◌++◌, map, OnOk};
 ghost use Rattle.std.specs.Option.{option_copied, option_map};
 ghost use Rattle.wire_msg.specs.Words.{plain, plain_envelope};
-ghost use Rattle.wire_msg.specs.declared.message.Envelope.{Envelope as CodeEnvelope};
 ghost use Rattle.overlay_rules.specs.Seen.{event_seen};
 ghost use Rattle.course_picture.specs.Words.{answer_words, command_words, event_words, kind_of, message_words, node_words};
 ghost use Rattle.course_picture.specs.Words.{note_words, notes_words, reply_words, short_file};

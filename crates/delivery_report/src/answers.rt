@@ -1,6 +1,6 @@
 //! How commands were closed.
 
-ghost use Rattle.std.specs.Prelude.{◌≡◌, ◌++◌, codes, decimal, OnOk};
+ghost use Rattle.std.specs.Prelude.{◌≡◌, ◌++◌, decimal, OnOk};
 ghost use Rattle.std.specs.Option.{option_copied};
 ghost use Rattle.delivery_report.specs.Answers.{name_of, bytes_text, reply_text, why_text, own_text, answer_text, found_in};
 

@@ -2,7 +2,7 @@
 //! there, and its report.
 #![tactic(auto)]
 
-ghost use Rattle.std.specs.Prelude.{◌≡◌, ◌≤◌, IfOk};
+ghost use Rattle.std.specs.Prelude.{◌≤◌, IfOk};
 ghost use Rattle.overlay_rules.specs.Record.{IsRecord};
 ghost use Rattle.schedule.specs.Schedule.{setting_of};
 ghost use Rattle.fetch_cache.specs.declared.limits.TheConstants.{MOST_ROOM};

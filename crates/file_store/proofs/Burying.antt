@@ -1,18 +1,16 @@
 -- What burying one file, or a list of files, does to the entries.
-use Rattle.std.proofs.Common.{◌≡◌, ◌<◌, ◌≤◌, ℕ, ◌+◌, Bool, true, false, not, ◌&&◌, ◌||◌, if◌then◌else◌, zero, suc, take, get_or, IsTrue, List, []}
+use Rattle.std.proofs.Common.{◌≡◌, ◌<◌, ◌≤◌, ℕ, ◌+◌, Bool, true, false, not, ◌&&◌, ◌||◌, if◌then◌else◌, zero, suc, take, get_or, List, []}
 use Rattle.std.proofs.Common.{◌∷◌, ◌++◌, length, refl, sym, ◌∙◌, arith, Option, Some, None, ap}
 use Rattle.std.specs.List.{list_all, list_any}
 use Rattle.std.proofs.lemmas.Bool.{ltb-true}
-use Rattle.std.proofs.lemmas.Bool.Decides.{nat_tests}
 use Rattle.std.proofs.lemmas.List.{take_more}
 use Rattle.ring_math.specs.declared.limits.TheConstants.{MOST_ENTRIES}
 use Rattle.ring_math.specs.Names.{FileId}
 use Rattle.ring_math.specs.declared.file.Held.{Held}
 use Rattle.ring_math.specs.Files.{Slot, slot_of, with_slot, buried, buried_at, buried_all, has_entry, has_room, is_entry}
-use Rattle.file_store.specs.Store.{Store}
 use Rattle.file_store.specs.Places.{is_rising}
-use Rattle.file_store.specs.declared.answer.Bury.TheVariants.{Buried, Laid, Full}
-use Rattle.file_store.specs.Answers.{bury_at, bury_of, after_bury, can_set}
+use Rattle.file_store.specs.declared.answer.Bury.TheVariants.{Laid}
+use Rattle.file_store.specs.Answers.{bury_at, bury_of, after_bury}
 use Rattle.ring_math.specs.Bytewise.{same_bytes}
 use Rattle.file_store.proofs.Slots.{by_test, if_both, with-same, slot-with, rising-with, length-with_least, length-with_old, length-with_new}
 

@@ -1,10 +1,9 @@
 //! A store as it will be once a change was made, seen before anything changes and without a copy.
 
-ghost use Rattle.std.specs.Prelude.{◌≡◌, ◌<◌, ◌≤◌, ◌||◌, ◌&&◌, not, true, length, take, is_some, IfSome};
-ghost use Rattle.std.specs.Prelude.{option_copied, option_map, slice_index_or, [], Some, ℕ, List};
+ghost use Rattle.std.specs.Prelude.{◌≡◌, ◌<◌, ◌||◌, ◌&&◌, not, true, length, take, is_some, IfSome};
+ghost use Rattle.std.specs.Prelude.{option_copied, option_map, slice_index_or, [], Some, List};
 ghost use Rattle.std.specs.List.{list_all};
-ghost use Rattle.ring_math.specs.Bytewise.{same_bytes};
-ghost use Rattle.ring_math.specs.Files.{slot_of, with_slot, has_entry, has_tomb, has_lists, buried_all};
+ghost use Rattle.ring_math.specs.Files.{slot_of, has_entry, has_tomb, has_lists, buried_all};
 ghost use Rattle.file_store.specs.Burial.{is_named, Reaches, rises};
 
 use crate::order::{comes_before, is_same};

@@ -1,6 +1,6 @@
 //! The pieces of a large file are joined.
 
-ghost use Rattle.std.specs.Prelude.{◌≡◌, ◌≤◌, ◌<◌, ◌^◌, ◌==◌, ◌++◌, Some, None, Err, IfOk, IfErr, IfSome, IfNone, OnOk, SomeIff, length, nat_lt, if◌then◌else◌};
+ghost use Rattle.std.specs.Prelude.{◌≡◌, ◌≤◌, ◌<◌, ◌^◌, ◌++◌, Some, None, Err, IfOk, IfErr, IfSome, IfNone, OnOk, SomeIff, length};
 ghost use Rattle.fragments.specs.Joined.{stated_size, stated_count, index_fault, first_from, is_missing, has_other_size, fragment_fault, join_fault, bytes_in, joined};
 ghost use Rattle.fragments.specs.declared.limits.TheConstants.{HEAD_BYTES};
 

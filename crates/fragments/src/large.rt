@@ -1,6 +1,6 @@
 //! Scenarios that store and fetch a large file.
 
-ghost use Rattle.std.specs.Prelude.{◌≡◌, ◌≤◌, ◌<◌, ◌++◌, codes, length, IfOk, OnOk};
+ghost use Rattle.std.specs.Prelude.{◌≡◌, ◌≤◌, ◌<◌, ◌++◌, length, IfOk, OnOk};
 ghost use Rattle.scenario_reader.specs.declared.limits.TheConstants.{MOST_NODES};
 ghost use Rattle.fragments.specs.declared.limits.TheConstants.{MOST_LARGE_BYTES, MOST_FRAGMENTS};
 ghost use Rattle.fragments.specs.Large.{generated_bytes, declared, fragment_label, declared_from, declared_pieces, store_tasks, retrieve_tasks, large_plan, large};

@@ -4,7 +4,6 @@ ghost use Rattle.std.specs.Prelude.{◌≡◌, ◌+◌, ◌≤◌, Contains, IfS
 ghost use Rattle.scenario_reader.specs.declared.limits.TheConstants.{MOST_DELIVERIES};
 ghost use Rattle.scenario_reader.specs.Plain.{ids, node_named};
 ghost use Rattle.scribe_core.specs.declared.action.GroupWhat.TheVariants as what;
-ghost use Rattle.scribe_core.specs.Actions.{AreActions};
 ghost use Rattle.group_reader.specs.Grammar.{node_id};
 ghost use Rattle.group_reader.specs.Plain.{nothing_yet, script_of, with_command, with_deliveries};
 
@@ -25,7 +24,7 @@ pub(crate) struct ScriptBuilder {
 }
 
 impl Model for ScriptBuilder {
-    ghost use Rattle.std.specs.Prelude.{◌≤◌, length};
+    ghost use Rattle.std.specs.Prelude.{◌≤◌};
     ghost use Rattle.scenario_reader.specs.declared.limits.TheConstants.{MOST_DELIVERIES};
     ghost use Rattle.scenario_reader.specs.Plain.{ids};
     ghost use Rattle.group_reader.specs.Plain.{Draft};

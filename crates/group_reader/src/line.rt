@@ -1,16 +1,13 @@
 //! The lines of part two.
 
-ghost use Rattle.std.specs.Prelude.{◌≡◌, ◌+◌, ◌⊎◌, ◌≤◌, ◌∷◌, [], false, true, Contains, IfErr, IfOk, MatchResult, Some, None, is_none, length, map, nat_lt};
+ghost use Rattle.std.specs.Prelude.{◌≡◌, ◌+◌, ◌≤◌, ◌∷◌, [], false, true, Contains, IfErr, IfOk, Some, None, length, map, nat_lt};
 ghost use Rattle.scenario_reader.specs.declared.fault.LineFault.TheVariants as fault;
 ghost use Rattle.scenario_reader.specs.declared.limits.TheConstants.{MOST_DELIVERIES, MOST_LINE_BYTES};
-ghost use Rattle.scenario_reader.specs.Plain.{ids, node_named};
+ghost use Rattle.scenario_reader.specs.Plain.{ids};
 ghost use Rattle.scenario_reader.specs.Spelling.{is_name};
 ghost use Rattle.scenario_reader.specs.Words.{plain_word};
-ghost use Rattle.scribe_core.specs.declared.action.GroupWhat.TheVariants as what;
-ghost use Rattle.scribe_core.specs.declared.message.GroupCommand.{GroupCommand as PlainCommand};
 ghost use Rattle.group_reader.specs.Grammar.{node_at, node_id, read_form, read_line, read_words};
 ghost use Rattle.group_reader.specs.Outcome.{Gives};
-ghost use Rattle.group_reader.specs.Plain.{with_command};
 
 use crate::builder::ScriptBuilder;
 use crate::form::{Form, form_with};

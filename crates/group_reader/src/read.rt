@@ -4,7 +4,6 @@ ghost use Rattle.std.specs.Prelude.{◌≡◌, ◌⊎◌, ◌≤◌, ◌+◌, Er
 ghost use Rattle.scenario_reader.specs.declared.fault.LineFault.TheVariants as fault;
 ghost use Rattle.scenario_reader.specs.declared.limits.TheConstants.{MOST_LINES};
 ghost use Rattle.scenario_reader.specs.Lines.{lines_of};
-ghost use Rattle.scenario_reader.specs.Rules.{KeepsRules};
 ghost use Rattle.group_reader.specs.declared.limits.TheConstants.{MOST_SCRIPT_BYTES};
 ghost use Rattle.group_reader.specs.Grammar.{groups_of, read_from};
 ghost use Rattle.group_reader.specs.Plain.{nothing_yet};

@@ -4,7 +4,7 @@ ghost use Rattle.std.specs.Prelude.{◌≡◌, ◌<◌, IfOk, OnErr, IfSome, Non
 ghost use Rattle.join_core.specs.Awaited.{is_asking, is_awaited};
 ghost use Rattle.join_core.specs.Joining.{attempt_of, begin_of, after_begin};
 ghost use Rattle.join_core.specs.Probes.{reply_of, after_reply, probe_step_of, after_probe_reply};
-ghost use Rattle.join_core.specs.Leases.{grant_step_of, timely_grant, marked, after_grant, is_granted, finished_of, after_finish};
+ghost use Rattle.join_core.specs.Leases.{grant_step_of, after_grant, is_granted, finished_of, after_finish};
 ghost use Rattle.join_core.specs.Ends.{halt, refused_of, denied_of, given_up_of, after_halt};
 
 use crate::attempt::Attempt;

@@ -2,7 +2,7 @@
 //! [`LEAVES_PER_SIDE`](ring_math::LEAVES_PER_SIDE) of each (Pastry, Rowstron and Druschel 2001).
 #![tactic(auto)]
 
-ghost use Rattle.std.specs.Prelude.{◌≡◌, ◌≤◌, ◌&&◌, ◌||◌, ◌++◌, not, [], ℕ, List, Contains, MatchOption, length, slice_get};
+ghost use Rattle.std.specs.Prelude.{◌≡◌, ◌≤◌, ◌&&◌, ◌||◌, ◌++◌, not, [], List, Contains, MatchOption, length, slice_get};
 ghost use Rattle.ring_math.specs.Names.{Id};
 ghost use Rattle.ring_math.specs.Members.{IsClosest};
 ghost use Rattle.ring_math.specs.Sides.{learn as learn_of};

@@ -1,7 +1,6 @@
 //! What names stand for, and how nodes are left.
 
 ghost use Rattle.std.specs.Prelude.{◌≡◌, ◌++◌, ◌<◌, ℕ, flat_map, length, OnOk};
-ghost use Rattle.coverage.specs.declared.Reach.{Reach as PlainReach};
 ghost use Rattle.overlay_rules.specs.State.{State};
 ghost use Rattle.scenario_reader.specs.Plain.{ids};
 ghost use Rattle.world_model.specs.Cells.{AllStand, id_at, ids_of};

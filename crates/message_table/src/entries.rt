@@ -2,7 +2,6 @@
 
 ghost use Rattle.std.specs.Prelude.{◌≡◌, ◌++◌, ◌+◌, ◌<◌, ◌^◌, [], length, map, Some, OnOk};
 ghost use Rattle.wire_msg.specs.Words.{plain_envelope};
-ghost use Rattle.overlay_rules.specs.Record.{visit};
 ghost use Rattle.overlay_rules.specs.Seen.{entry_seen, event_seen};
 ghost use Rattle.delivery_report.specs.Deliveries.{node_of};
 ghost use Rattle.message_table.specs.Entries.{entries_text, entry_text, event_line, event_text, lines_at, message_line, message_lines};

@@ -1,6 +1,6 @@
 //! The commands that lines say.
 
-ghost use Rattle.std.specs.Prelude.{◌≡◌, ◌≤◌, ◌<◌, ◌+◌, ◌∷◌, [], true, false, Some, None, IfOk, IfErr, MatchOption, length, map};
+ghost use Rattle.std.specs.Prelude.{◌≡◌, ◌≤◌, ◌<◌, ◌+◌, ◌∷◌, [], true, false, Some, None, MatchOption, length, map};
 ghost use Rattle.ring_math.specs.declared.limits.TheConstants.{MOST_BYTES};
 ghost use Rattle.scenario_reader.specs.declared.limits.TheConstants.{MOST_LINE_BYTES};
 ghost use Rattle.scenario_reader.specs.Checks.{is_outside};
@@ -9,7 +9,7 @@ ghost use Rattle.scenario_reader.specs.Words.{plain_word};
 ghost use Rattle.node_lines.specs.declared.refusal.Refusal.TheVariants as refusal;
 ghost use Rattle.node_lines.specs.declared.refusal.TellFault.TheVariants as fault;
 ghost use Rattle.node_lines.specs.Commands.{bytes_in, command_of, copies_in, fetch_of, file_in, giveup_of, id_in, insert_of, join_of, lookup_of, or_refused, reclaim_of, salt_in};
-ghost use Rattle.node_lines.specs.Lines.{IsDue, Reads};
+ghost use Rattle.node_lines.specs.Lines.{Reads};
 
 use crate::refusal::{Refusal, TellFault};
 use ring_math::{Bytes, BytesFault, FileId, Id, file_id, id_from_hex};

@@ -1,6 +1,6 @@
 //! The line that names the node.
 
-ghost use Rattle.std.specs.Prelude.{◌≡◌, ◌≤◌, ◌+◌, bytes_eq, codes, length, map};
+ghost use Rattle.std.specs.Prelude.{◌≡◌, ◌≤◌, length, map};
 ghost use Rattle.scenario_reader.specs.declared.limits.TheConstants.{MOST_LINE_BYTES};
 ghost use Rattle.scenario_reader.specs.Words.{plain_word};
 ghost use Rattle.node_lines.specs.Lines.{Reads};

@@ -1,6 +1,6 @@
 //! What a line tells a node.
 
-ghost use Rattle.std.specs.Prelude.{◌≡◌, ◌≤◌, ◌<◌, IfSome, length, map, not, position};
+ghost use Rattle.std.specs.Prelude.{◌≡◌, ◌≤◌, ◌<◌, length, map};
 ghost use Rattle.scenario_reader.specs.declared.limits.TheConstants.{MOST_LINE_BYTES};
 ghost use Rattle.scenario_reader.specs.Words.{plain_word};
 ghost use Rattle.node_lines.specs.Lines.{Reads, brings_bytes, brought_by, commanded_by, said_by, told_by};

@@ -1,6 +1,6 @@
 //! A pass to each mailbox of a post.
 
-ghost use Rattle.std.specs.Prelude.{◌≡◌, ◌≤◌, ◌<◌, ℕ, length, map, slice_set, vec_len, All, IfOk, IfErr, IfSome, IfNone, OnOk, OnErr};
+ghost use Rattle.std.specs.Prelude.{◌≡◌, ◌≤◌, ◌<◌, ℕ, length, map, slice_set, All, IfOk, IfErr, IfSome, IfNone, OnOk, OnErr};
 ghost use Rattle.node_mailbox.specs.Pass.{after_put, after_take, after_split, split_off, after_join, TookOnlyPut, TookAllPut};
 ghost use Rattle.node_mailbox.specs.Post.{AreOf, AreOfFirst, mailbox_at, pass_at, after_joins};
 

@@ -1,10 +1,9 @@
 //! Outcomes that many rows share: what is sent and noted beside a change.
 
-ghost use Rattle.std.specs.Prelude.{◌≡◌, IfOk, OnOk, [], ◌∷◌, ◌++◌, ℕ};
+ghost use Rattle.std.specs.Prelude.{◌≡◌, IfOk, OnOk, [], ◌∷◌, ◌++◌};
 ghost use Rattle.overlay_rules.specs.State.{State};
 ghost use Rattle.overlay_rules.specs.Outcome.{nothing, becomes, sent, before, to_both, to_each, replied as replied_of, reply_message};
 ghost use Rattle.overlay_rules.specs.Routed.{one_more as one_more_of};
-ghost use Rattle.overlay_rules.specs.declared.request.Asked.TheVariants as asked;
 ghost use Rattle.wire_msg.specs.Words.{plain};
 ghost use Rattle.wire_msg.specs.declared.note.Note.TheVariants as note;
 ghost use Rattle.wire_msg.specs.declared.reply.Reply.TheVariants as reply;

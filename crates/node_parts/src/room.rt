@@ -1,6 +1,6 @@
 //! Room for a change is made. What the node stands for stays.
 
-ghost use Rattle.std.specs.Prelude.{◌≡◌, ◌≤◌, ◌+◌, OnOk, length, vec_len, vec_capacity};
+ghost use Rattle.std.specs.Prelude.{◌≡◌, OnOk};
 ghost use Rattle.overlay_rules.specs.State.{State};
 ghost use Rattle.node_parts.specs.Fits.{Fits, RestFits, StoreFits, asks_more, waits_more};
 ghost use Rattle.node_parts.specs.Seen.{Stands};

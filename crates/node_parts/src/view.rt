@@ -1,9 +1,8 @@
 //! What a node shows. No call of this file takes memory but those that list identifiers.
 
-ghost use Rattle.std.specs.Prelude.{◌≡◌, IfOk, IfSome, List, ℕ, option_copied, [], Some, None};
+ghost use Rattle.std.specs.Prelude.{◌≡◌, IfOk, IfSome, List, ℕ, option_copied, Some, None};
 ghost use Rattle.ring_math.specs.Files.{slot_of};
 ghost use Rattle.ring_math.specs.Sides.{leaves, learn_all, first_or, left_side, right_side};
-ghost use Rattle.coverage.specs.NextHop.{next_hop_of};
 ghost use Rattle.file_store.specs.Answers.{bytes_in};
 ghost use Rattle.leaf_set.specs.Leaves.{StandsFor};
 ghost use Rattle.overlay_rules.specs.State.{State, is_ready, reach as reach_in};

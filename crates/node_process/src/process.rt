@@ -1,6 +1,6 @@
 //! A node that answers lines.
 
-ghost use Rattle.std.specs.Prelude.{◌≡◌, IfOk, IfErr, OnOk, OnErr};
+ghost use Rattle.std.specs.Prelude.{IfOk, IfErr, OnOk, OnErr};
 ghost use Rattle.node_lines.specs.declared.told.Told.TheVariants as told;
 ghost use Rattle.node_process.specs.Steps.{IsDueToTold, Stepped};
 ghost use Rattle.node_process.specs.Talk.{Added, IsAnswered, IsAnsweredTo, IsAsFar, Talk, talk_at_start};

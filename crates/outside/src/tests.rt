@@ -1,4 +1,4 @@
-ghost use Rattle.std.specs.Prelude.{◌≡◌, ◌≢◌, ◌<◌, Err, IsOk};
+ghost use Rattle.std.specs.Prelude.{◌≢◌, ◌<◌, Err, IsOk};
 
 use super::*;
 use std::alloc::Global;

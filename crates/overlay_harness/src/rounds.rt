@@ -2,7 +2,6 @@
 
 ghost use Rattle.std.specs.Prelude.{◌≡◌, ◌∷◌, ◌≤◌, [], None, All, OnOk};
 ghost use Rattle.std.specs.List.{AllZip};
-ghost use Rattle.node_mailbox.specs.Post.{AreOf};
 ghost use Rattle.overlay_harness.specs.Rounds.{IsAtWork, ServedIn, ServedUnlessStopped, WentOn, WentOnUnlessStopped};
 ghost use Rattle.overlay_harness.specs.Shown.{shown};
 ghost use Rattle.overlay_harness.specs.Work.{MayBeTold};

@@ -1,6 +1,6 @@
 //! A run by threads: what cells are given before it, its stages, and what is done when they are over.
 
-ghost use Rattle.std.specs.Prelude.{◌≡◌, ◌≤◌, ◌<◌, ◌-◌, [], All, IfOk, IfSome, IsSome, OnOk, Some, length, map, take};
+ghost use Rattle.std.specs.Prelude.{◌≡◌, ◌≤◌, ◌<◌, ◌-◌, [], All, IfOk, IsSome, OnOk, Some, length, map, take};
 ghost use Rattle.node_cell.specs.Carried.{just_given};
 ghost use Rattle.node_cell.specs.Cell.{empty_cell};
 ghost use Rattle.node_cell.specs.Equipped.{IsUnused};

@@ -1,6 +1,6 @@
 //! Acknowledgements of replicas.
 
-ghost use Rattle.std.specs.Prelude.{◌≡◌, ◌==◌, ℕ, not, Some, None, [], length, filter, position, IfOk, OnErr, slice_get};
+ghost use Rattle.std.specs.Prelude.{◌≡◌, ◌==◌, not, Some, None, length, filter, position, IfOk, OnErr};
 ghost use Rattle.overlay_rules.specs.State.{State};
 ghost use Rattle.overlay_rules.specs.Replicas.{awaits, on_replica_ack};
 ghost use Rattle.past_core.specs.Acks.{acked, IsWithin, ack_outcome};

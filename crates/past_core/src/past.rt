@@ -1,7 +1,7 @@
 //! The inserts that wait.
 
-ghost use Rattle.std.specs.Prelude.{◌≡◌, ◌<◌, ◌≤◌, ◌+◌, ◌++◌, ◌∷◌, [], not, filter, map, length, position, IfOk, OnOk, OnErr, slice_get};
-ghost use Rattle.overlay_rules.specs.Roots.{is_ask, is_of, with_ask};
+ghost use Rattle.std.specs.Prelude.{◌≡◌, ◌<◌, ◌≤◌, ◌+◌, [], not, filter, map, length, position, IfOk, OnOk, OnErr, slice_get};
+ghost use Rattle.overlay_rules.specs.Roots.{is_of, with_ask};
 ghost use Rattle.overlay_rules.specs.Replicas.{awaits};
 ghost use Rattle.overlay_rules.specs.Gatekeeper.{is_left_to};
 ghost use Rattle.past_core.specs.Waits.{ask_of, taken_out, heard_at};

@@ -3,7 +3,6 @@
 ghost use Rattle.std.specs.Prelude.{◌≡◌, ◌≤◌, ◌↔◌, ◌⊎◌, Some, None, IfOk, IfErr, IfSome, IsSome, IsNone, OnOk};
 ghost use Rattle.outside.specs.Rose.{Rose};
 ghost use Rattle.scenario_reader.specs.declared.fault.LineFault.{LineFault as Fault};
-ghost use Rattle.overlay_harness.specs.declared.fault.RunFault.TheVariants.{NotForRun};
 ghost use Rattle.overlay_harness.specs.Fault.{IsDueTo, first_unfit_line};
 ghost use Rattle.pastry.specs.Faults.{status_of, IsRunningFault};
 ghost use Rattle.pastry.specs.Outputs.{output_text};

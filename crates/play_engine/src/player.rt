@@ -2,7 +2,7 @@
 
 ghost use Rattle.std.specs.Prelude.{◌≡◌, ◌↔◌, false, true, Some, IfOk, OnOk, OnErr, MatchBool};
 ghost use Rattle.overlay_rules.specs.declared.entry.Event.{Event};
-ghost use Rattle.overlay_rules.specs.Record.{IsRecord, IsSetting};
+ghost use Rattle.overlay_rules.specs.Record.{IsRecord};
 ghost use Rattle.scenario_reader.specs.Plain.{ids};
 ghost use Rattle.schedule.specs.Cursors.{event_of, step_of};
 ghost use Rattle.schedule.specs.Playing.{IsBeginning};

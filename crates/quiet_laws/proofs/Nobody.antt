@@ -39,7 +39,7 @@ use Rattle.quiet_laws.proofs.Ending.{EndsHold, ends_keep, ends_at_start, closed_
 use Rattle.quiet_laws.proofs.Full.{IsFull}
 use Rattle.quiet_laws.proofs.Granted.{Provided, there, coming, no_room, IsHandover, AllProvided, ListsProvided, PhaseProvided, GrantsProvided, provided_keep}
 use Rattle.quiet_laws.proofs.Granted.{provided_at_start}
-use Rattle.quiet_laws.proofs.Inserts.{IsCopy, IsAck, TargetRests, AskRests, AsksRest, asks_keep, asks_at_start}
+use Rattle.quiet_laws.proofs.Inserts.{IsCopy, IsAck, TargetRests, AsksRest, asks_keep, asks_at_start}
 use Rattle.quiet_laws.proofs.Inserts as target
 use Rattle.quiet_laws.proofs.Joins.{IsQuestion, IsAnswer, NeedRests, JoinsRest, joins_rest_keep, joins_rest_at_start}
 use Rattle.quiet_laws.proofs.Joins as need

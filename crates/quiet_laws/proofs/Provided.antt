@@ -19,7 +19,7 @@ use Rattle.overlay_rules.specs.Gates.{asked_for, is_older, gate_on}
 use Rattle.overlay_rules.specs.Gatekeeper.{cleared, unless_lease, handovers, with_handover, granted, gated_reach, newly_gated}
 use Rattle.overlay_rules.specs.Step.{step}
 use Rattle.overlay_rules.proofs.Each.{Each, Each-both, Each-weaker}
-use Rattle.overlay_rules.proofs.Seat.{Seat, IsService}
+use Rattle.overlay_rules.proofs.Seat.{Seat}
 use Rattle.overlay_rules.proofs.Seat as rule
 use Rattle.overlay_rules.proofs.SeatStep.{new_lists}
 use Rattle.ring_laws.proofs.Leases.{lease_on}

@@ -17,7 +17,7 @@ use Rattle.overlay_rules.specs.State.{State, Lease, Phase, Waiting, Asking, Prob
 use Rattle.overlay_rules.specs.Outcome.{Outcome, Input, Command, Comes, Noise}
 use Rattle.overlay_rules.specs.Gates.{is_of, is_older, asked_for, gate_on, link_after}
 use Rattle.overlay_rules.specs.Gatekeeper.{unless_lease, without_gates, cleared, confirmed}
-use Rattle.overlay_rules.proofs.Seat.{Seat, SameSeat}
+use Rattle.overlay_rules.proofs.Seat.{Seat}
 use Rattle.overlay_rules.proofs.Seat as rule
 use Rattle.overlay_rules.proofs.SeatStep.{new_lists}
 use Rattle.ring_laws.proofs.Leases.{lease_on, pick, end_in, IsGranted, cleared_for, leased_to, new_lease, free_side}

@@ -1,6 +1,6 @@
 //! Laws of the ring's picture over its definitions. The functions do nothing: their contracts are what is proved.
 
-ghost use Rattle.std.specs.Prelude.{◌≡◌, ◌↔◌, ℕ, List, Some, true, Contains};
+ghost use Rattle.std.specs.Prelude.{◌≡◌, ◌↔◌, Some, Contains};
 ghost use Rattle.ring_math.specs.Names.{Id, Key};
 ghost use Rattle.ring_math.specs.Members.{IsClosest};
 ghost use Rattle.overlay_rules.specs.Ready.{IsReadyIn};

@@ -1,6 +1,6 @@
 //! The whole ring.
 
-ghost use Rattle.std.specs.Prelude.{◌≡◌, ◌++◌, ℕ, length, OnOk};
+ghost use Rattle.std.specs.Prelude.{◌≡◌, ◌++◌, ℕ, OnOk};
 ghost use Rattle.overlay_rules.specs.State.{State};
 ghost use Rattle.svg_text.specs.Picture.{text_of};
 ghost use Rattle.world_model.specs.Cells.{AllStand, ids_of};

@@ -1,7 +1,6 @@
 //! What the picture shows of nodes.
 
 ghost use Rattle.std.specs.Prelude.{◌≡◌, ℕ, IfOk};
-ghost use Rattle.coverage.specs.Closest.{closest_in};
 ghost use Rattle.overlay_rules.specs.State.{State};
 ghost use Rattle.world_model.specs.Cells.{AllStand, ids_of};
 ghost use Rattle.ring_picture.specs.Seats.{owner_of, ready_ids, seats_of};

@@ -1,9 +1,9 @@
 //! The lines that are actions and no commands.
 
-ghost use Rattle.std.specs.Prelude.{◌≡◌, ◌+◌, ◌*◌, ◌<◌, ◌≤◌, ◌∷◌, [], true, false, IfErr, IfOk, IsSome, MatchResult, OnOk};
+ghost use Rattle.std.specs.Prelude.{◌≡◌, ◌+◌, ◌*◌, ◌<◌, ◌≤◌, ◌∷◌, [], true, IsSome, MatchResult};
 ghost use Rattle.wire_codec.specs.Reading.{refusal};
 ghost use Rattle.scenario_reader.specs.declared.fault.LineFault.TheVariants as fault;
-ghost use Rattle.scenario_reader.specs.Checks.{is_frame, is_outside, passes_deliveries, settle_passes, shuffle_passes};
+ghost use Rattle.scenario_reader.specs.Checks.{is_frame, passes_deliveries, settle_passes};
 ghost use Rattle.scenario_reader.specs.Grammar.{read_form};
 ghost use Rattle.scenario_reader.specs.Outcome.{Gives};
 ghost use Rattle.scenario_reader.specs.Words.{plain_word};

@@ -1,7 +1,6 @@
 //! The lines that are commands.
 
-ghost use Rattle.std.specs.Prelude.{◌≡◌, ◌+◌, ◌<◌, ◌≤◌, ◌^◌, ◌∷◌, [], true, false, Some, Contains, IfErr, IfOk, IsSome, MatchOption, OnOk};
-ghost use Rattle.scenario_reader.specs.declared.fault.LineFault.TheVariants as fault;
+ghost use Rattle.std.specs.Prelude.{◌≡◌, ◌+◌, ◌<◌, ◌≤◌, ◌^◌, ◌∷◌, [], true, false, Some, Contains, IfOk, IsSome, MatchOption, OnOk};
 ghost use Rattle.scenario_reader.specs.declared.action.What.TheVariants as what;
 ghost use Rattle.scenario_reader.specs.Checks.{is_outside};
 ghost use Rattle.scenario_reader.specs.Effects.{with_what};

@@ -1,6 +1,6 @@
 //! The lines that declare.
 
-ghost use Rattle.std.specs.Prelude.{◌≡◌, ◌≢◌, ◌<◌, ◌≤◌, ◌∷◌, ◌⊎◌, [], true, false, Some, All, IfErr, IfNone, IfOk, IfSome, MatchResult, length, nat_lt};
+ghost use Rattle.std.specs.Prelude.{◌≡◌, ◌≢◌, ◌<◌, ◌∷◌, ◌⊎◌, [], true, false, Some, All, IfErr, IfNone, IfOk, length, nat_lt};
 ghost use Rattle.ring_math.specs.declared.limits.TheConstants.{MOST_BYTES};
 ghost use Rattle.scenario_reader.specs.declared.fault.LineFault.TheVariants as fault;
 ghost use Rattle.scenario_reader.specs.Checks.{is_twice, leftmost};

@@ -1,16 +1,14 @@
 //! What the words of a line spell and name, and which faults they have.
 
-ghost use Rattle.std.specs.Prelude.{◌≡◌, ◌≢◌, ◌⊎◌, ◌+◌, ◌*◌, ◌<◌, ◌≤◌, ◌++◌, true, false, None, Some, All, Any, Contains, IfErr, IfNone, IfOk, IfSome, IsNone, IsSome, IsTrue, MatchResult, length, nat_lt, not};
-ghost use Rattle.ring_math.specs.Keys.{key_of};
-ghost use Rattle.wire_codec.specs.Reading.{refusal};
+ghost use Rattle.std.specs.Prelude.{◌≡◌, ◌⊎◌, ◌<◌, ◌≤◌, true, false, None, Some, Contains, IfErr, IfOk, IsSome, MatchResult, length, nat_lt};
 ghost use Rattle.scenario_reader.specs.declared.fault.LineFault.TheVariants as fault;
 ghost use Rattle.scenario_reader.specs.declared.limits.TheConstants.{MOST_DELIVERIES};
-ghost use Rattle.scenario_reader.specs.Checks.{is_frame, is_outside, is_undeclared};
+ghost use Rattle.scenario_reader.specs.Checks.{is_undeclared};
 ghost use Rattle.scenario_reader.specs.Meanings.{file_key, identifier_in, key_in, node_id};
 ghost use Rattle.scenario_reader.specs.Plain.{file_named, ids};
 ghost use Rattle.scenario_reader.specs.Rules.{IsFile, IsFileOf};
 ghost use Rattle.scenario_reader.specs.Tallies.{tally_of};
-ghost use Rattle.scenario_reader.specs.Spelling.{behind_at, bytes_of, identifier_of, is_dash, is_identifier, is_key, is_name, number_of, salt_of};
+ghost use Rattle.scenario_reader.specs.Spelling.{behind_at, bytes_of, is_dash, is_identifier, is_key, is_name, number_of, salt_of};
 
 use crate::builder::ScenarioBuilder;
 use crate::fault::LineFault;

@@ -3,7 +3,6 @@ use Rattle.std.specs.Prelude.{◌≡◌, ℕ, List, ◌++◌}
 use Rattle.overlay_rules.specs.declared.entry.Entry.{Entry}
 use Rattle.overlay_rules.specs.declared.entry.Record.{Record}
 use Rattle.overlay_rules.specs.Record.{IsRecord, Setting, World}
-use Rattle.scenario_reader.specs.Plain.{PlainScenario}
 use Rattle.schedule.specs.Schedule.{setting_of}
 use Rattle.scribe_core.specs.Entry.{GroupEntry}
 use Rattle.scribe_core.specs.Laws.{CastsFollowGrafts, HeardOnce, MembersHear, ParentsAreNearer, RefusedOnlyWhere, WaysUpEnd, overlay_of}

@@ -1,7 +1,7 @@
 //! A script of groups, whole: its scenario played, its groups played over what that leaves, and the report of both.
 #![tactic(auto)]
 
-ghost use Rattle.std.specs.Prelude.{◌≡◌, IfOk};
+ghost use Rattle.std.specs.Prelude.{IfOk};
 ghost use Rattle.script_report.specs.Whole.{IsPlayedScript};
 
 mod laws;

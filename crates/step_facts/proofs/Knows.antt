@@ -15,7 +15,7 @@ use Rattle.overlay_rules.specs.Joining.{unanswered, answered_by, first_left, fir
 use Rattle.overlay_rules.specs.Gates.{asked_for, link_after, is_gate_of}
 use Rattle.overlay_rules.specs.Gatekeeper.{cleared, lists_of}
 use Rattle.overlay_rules.proofs.Each.{Each, Each-append, Each-filter, Each-weaker}
-use Rattle.overlay_rules.proofs.Seat.{Seat, SameSeat, IsService, AllService}
+use Rattle.overlay_rules.proofs.Seat.{Seat, IsService}
 use Rattle.overlay_rules.proofs.Seat as rule
 use Rattle.overlay_rules.proofs.SeatStep.{granted_sends, newly_gated_sends}
 use Rattle.overlay_rules.proofs.Sends.{Each-to_both, Each-to_each}

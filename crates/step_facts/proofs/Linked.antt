@@ -15,7 +15,7 @@ use Rattle.overlay_rules.specs.Outcome.{Outcome, Input}
 use Rattle.overlay_rules.specs.Joining.{learnt_of}
 use Rattle.overlay_rules.specs.Gates.{link_after, is_gate_of}
 use Rattle.overlay_rules.proofs.Each.{Each, Each-contains, Each-itself}
-use Rattle.overlay_rules.proofs.Seat.{Seat, SameSeat}
+use Rattle.overlay_rules.proofs.Seat.{Seat}
 use Rattle.overlay_rules.proofs.Seat as rule
 use Rattle.coverage.proofs.Leaves as nearest
 use Rattle.step_facts.proofs.Learnt.{IsCons, IsCons-learn_all, first_left-known, first_right-known, Contains-learn, learnt_itself, unknown-learn}

@@ -36,7 +36,7 @@ use Rattle.overlay_rules.specs.Gates.{asked_for}
 use Rattle.overlay_rules.specs.Gatekeeper.{cleared, is_left_to, gated_reach, newly_gated, granted, handovers, lists_of}
 use Rattle.overlay_rules.specs.Step.{step, waits_for}
 use Rattle.overlay_rules.proofs.Each.{Each, Each-append, Each-drop, Each-filter, Each-slice_get, Each-take, Each-weaker}
-use Rattle.overlay_rules.proofs.Seat.{Seat, IsService, IsServiceInput}
+use Rattle.overlay_rules.proofs.Seat.{Seat, IsServiceInput}
 use Rattle.overlay_rules.proofs.Seat as rule
 use Rattle.overlay_rules.proofs.Sends.{Each-to_both, Each-to_each, Each-handovers}
 use Rattle.overlay_rules.proofs.SeatStep.{new_lists}

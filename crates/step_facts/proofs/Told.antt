@@ -9,7 +9,7 @@ use Rattle.overlay_rules.specs.Outcome.{Outcome, Input, Sent, to_both, to_each}
 use Rattle.overlay_rules.specs.Gates.{asked_for}
 use Rattle.overlay_rules.specs.Gatekeeper.{cleared, lists_of}
 use Rattle.overlay_rules.proofs.Each.{Each, Each-append, Each-weaker}
-use Rattle.overlay_rules.proofs.Seat.{Seat, IsService, AllService}
+use Rattle.overlay_rules.proofs.Seat.{Seat, IsService}
 use Rattle.overlay_rules.proofs.Seat as rule
 use Rattle.overlay_rules.proofs.SeatStep.{granted_sends, newly_gated_sends}
 use Rattle.overlay_rules.proofs.Sends.{Each-to_both, Each-to_each}

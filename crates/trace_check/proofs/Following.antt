@@ -1,5 +1,5 @@
 -- One entry more: it may follow and is replayed, or which part of it is wrong.
-use Rattle.std.proofs.Common.{◌≡◌, ◌≢◌, ℕ, Bool, Option, Some, None, List, [], ◌∷◌, ◌++◌, zero, suc, ◌<◌, length, map, slice_get, slice_index}
+use Rattle.std.proofs.Common.{◌≡◌, ℕ, Bool, Option, Some, None, List, [], ◌∷◌, ◌++◌, zero, suc, ◌<◌, length, map, slice_get, slice_index}
 use Rattle.std.proofs.Common.{slice_index_or, arith, Contains, refl, sym, subst, ap, ◌∙◌}
 use Rattle.std.specs.Bool.{Decides}
 use Rattle.std.specs.Option.{option_map}

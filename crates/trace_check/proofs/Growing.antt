@@ -1,5 +1,5 @@
 -- What holds of each entry, with one entry more.
-use Rattle.std.proofs.Common.{◌≡◌, Bool, true, false, Some, List, [], ◌∷◌, ◌++◌, All, refl}
+use Rattle.std.proofs.Common.{Bool, false, Some, List, [], ◌∷◌, ◌++◌, All, refl}
 use Rattle.std.specs.Bool.{Decides}
 use Rattle.std.proofs.lemmas.Bool.Decides.{Decides-like}
 use Rattle.std.proofs.lemmas.List.Elements.{All-push, All-pop}

@@ -1,5 +1,5 @@
 -- The numbers of a record's commands: which are used, and which is the greatest at each node.
-use Rattle.std.specs.Prelude.{◌≢◌, ◌<◌, ◌≡◌, nat_lt, Bool, true, false, Option, Some, None, is_none, List, All}
+use Rattle.std.specs.Prelude.{◌≢◌, ◌<◌, ◌≡◌, nat_lt, Bool, true, Option, Some, None, is_none, List, All}
 use Rattle.std.specs.Bool.{Decides}
 use Rattle.std.specs.BTreeMap.{get}
 use Rattle.std.specs.Ordering.{nat_cmp}

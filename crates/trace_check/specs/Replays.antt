@@ -1,5 +1,5 @@
 -- What is kept of the entries so far: nodes that stand for the states after them, and the numbers of their commands.
-use Rattle.std.specs.Prelude.{◌≡◌, ℕ, Option, Some, None, List, [], ◌∷◌, ◌++◌, map}
+use Rattle.std.specs.Prelude.{◌≡◌, Option, Some, None, List, [], ◌∷◌, ◌++◌, map}
 use Rattle.ring_math.specs.Names.{Id}
 use Rattle.wire_msg.specs.declared.message.Envelope.{Envelope as CodeEnvelope}
 use Rattle.wire_msg.specs.declared.note.Note.{Note}

@@ -15,7 +15,7 @@ use Rattle.overlay_rules.specs.Record.{all_differ}
 use Rattle.wire_msg.specs.declared.note.Note.{Note as NodeNote}
 use Rattle.wire_msg.specs.Words.{Envelope}
 use Rattle.scenario_reader.specs.declared.limits.TheConstants.{MOST_NODES}
-use Rattle.trace_text.specs.Lines.{Line, FitsLine, IsLine, line_text, ended, text_of_lines}
+use Rattle.trace_text.specs.Lines.{Line}
 use Rattle.trace_text.specs.Lines as line
 use Rattle.trace_text.specs.Traces.{trace_of, setting_lines, entry_lines}
 use Rattle.trace_text.specs.Fronts.{Front, Nothing, Nodes, Founder, Entries, End, lines_of, after, begun, KeepsSetting}

@@ -1,9 +1,8 @@
 //! The words of a line, and the lines of a text.
 
-ghost use Rattle.std.specs.Prelude.{◌≡◌, ◌*◌, ◌++◌, ◌∷◌, ◌<◌, ◌^◌, ℕ, true, length, slice_index, IfErr, IsTrue, List, MatchOption, OnOk};
+ghost use Rattle.std.specs.Prelude.{◌≡◌, ◌*◌, ◌++◌, ◌∷◌, ◌<◌, ℕ, true, length, slice_index, IfErr, IsTrue, List, MatchOption, OnOk};
 ghost use Rattle.std.specs.List.{list_all};
 ghost use Rattle.hex.specs.Hex.{lower_digits};
-ghost use Rattle.ring_math.specs.Texts.{text_of};
 ghost use Rattle.trace_text.specs.Answers.{Finds, Fails};
 ghost use Rattle.trace_text.specs.Digits.{is_lower_digit, lacks, AreDigitsOf, IsIdText, IsNumberText};
 ghost use Rattle.trace_text.specs.declared.words.TheConstants.{NO_DIGIT};

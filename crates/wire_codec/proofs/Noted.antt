@@ -1,20 +1,20 @@
 -- Bytes that are one layout alone, without a header: what decode_command and decode_note answer.
-use Rattle.std.proofs.Common.{◌≡◌, ◌≢◌, ℕ, ◌+◌, ◌≤◌, List, [], ◌++◌, length, drop, eqb, true, Option, Some, None, Result, Ok, Err, refl, sym, ap, subst}
+use Rattle.std.proofs.Common.{◌≡◌, ◌≢◌, ℕ, ◌+◌, List, [], ◌++◌, length, drop, eqb, true, Option, None, Result, Ok, Err, refl, sym, ap, subst}
 use Rattle.std.proofs.Common.{◌∙◌, arith}
 use Rattle.std.proofs.Common.{eq-eqb}
 use Rattle.std.specs.Prelude.{IfOk, MatchResult}
-use Rattle.std.specs.List.{flat_map, AllByRecursion}
+use Rattle.std.specs.List.{flat_map}
 use Rattle.std.proofs.lemmas.Bool.{eqb-true}
 use Rattle.std.proofs.lemmas.List.{append-nil, nil_from_length, length-drop}
 use Rattle.wire_codec.specs.declared.fault.FrameFault.{FrameFault}
 use Rattle.wire_codec.specs.declared.fault.FrameFault.TheVariants as fault
-use Rattle.wire_codec.specs.Fields.{Field, AreBytes, spelled, Fits}
+use Rattle.wire_codec.specs.Fields.{Field, AreBytes, spelled}
 use Rattle.wire_codec.specs.Sizes.{size_of_all}
 use Rattle.wire_codec.specs.Layouts.{Layout}
 use Rattle.wire_msg.specs.declared.command.Command.{Command}
 use Rattle.wire_msg.specs.declared.note.Note.{Note}
 use Rattle.wire_codec.specs.Notes.{SpellsFields, SpellsCommand, SpellsNote, refusal_of_walk, fields_of_command, fields_of_note, command_layout, note_layout}
-use Rattle.wire_codec.specs.Reading.{◌>>=◌, Reading, Reads, walk, IsDue}
+use Rattle.wire_codec.specs.Reading.{◌>>=◌, Reading, walk, IsDue}
 use Rattle.wire_codec.specs.Values.{Gives, values_at}
 use Rattle.wire_codec.specs.Writing.{Writes}
 use Rattle.wire_codec.proofs.Matching.{Matches}

@@ -1,7 +1,7 @@
 //! Reading one field of a frame. Each call takes the place where the field begins, and gives the place behind it.
 
-ghost use Rattle.std.specs.Prelude.{◌≡◌, ◌+◌, ◌*◌, ◌≤◌, ◌<◌, length, map, IfOk};
-ghost use Rattle.std.specs.Int.{w8, w16, w32, w64, w128, from_be_bytes};
+ghost use Rattle.std.specs.Prelude.{◌+◌, ◌*◌, ◌≤◌, ◌<◌, length, map, IfOk};
+ghost use Rattle.std.specs.Int.{w8, w16, w128, from_be_bytes};
 ghost use Rattle.wire_codec.specs.Fields.{Field};
 ghost use Rattle.wire_codec.specs.Layouts.{Form};
 ghost use Rattle.wire_codec.specs.Reading.{Reads, part_at, number_at, number_within, field_at};

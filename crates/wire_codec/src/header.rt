@@ -1,6 +1,6 @@
 //! The front of a frame.
 
-ghost use Rattle.std.specs.Prelude.{◌≡◌, ◌≤◌, length, IfOk};
+ghost use Rattle.std.specs.Prelude.{◌≤◌, length, IfOk};
 ghost use Rattle.wire_codec.specs.Reading.{Reads, header_of};
 
 use crate::fault::FrameFault;

@@ -1,6 +1,6 @@
 //! The version and the kind of a frame.
 
-ghost use Rattle.std.specs.Prelude.{◌≡◌, ◌≤◌, length, IfOk};
+ghost use Rattle.std.specs.Prelude.{◌≡◌};
 ghost use Rattle.wire_msg.specs.Words.{plain};
 ghost use Rattle.wire_codec.specs.declared.kind.Version.TheVariants.{One, Two};
 ghost use Rattle.wire_codec.specs.Kinds.{number_of, version_of, kind_of, version_of_reply, version_of_tombs};

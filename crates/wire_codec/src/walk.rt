@@ -2,7 +2,7 @@
 
 ghost use Rattle.std.specs.Prelude.{◌≤◌, length};
 ghost use Rattle.wire_codec.specs.declared.kind.Kind.TheVariants as kind;
-ghost use Rattle.wire_codec.specs.Layouts.{end, tagged, behind_reply, why, reply, tombs, layout};
+ghost use Rattle.wire_codec.specs.Layouts.{end, tagged, behind_reply, why, layout};
 ghost use Rattle.wire_codec.specs.Reading.{Reads, walk};
 
 use crate::fault::FrameFault;

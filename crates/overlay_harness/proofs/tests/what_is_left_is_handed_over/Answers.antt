@@ -1,6 +1,5 @@
-use Rattle.std.proofs.Common.{List, All, sym, subst}
-use Rattle.node_cell.specs.Cell.{Cell}
-use Rattle.weave.specs.Cells.{HasNoPasses, HaveOwnNodes}
+use Rattle.std.proofs.Common.{sym, subst}
+use Rattle.weave.specs.Cells.{HaveOwnNodes}
 use Rattle.overlay_harness.proofs.Made.{own_nodes}
 use Rattle.overlay_harness.proofs.tests.what_is_left_is_handed_over.Goals as goal
 

@@ -1,4 +1,4 @@
-use Rattle.std.proofs.Common.{◌≡◌, ◌∙◌, Err, sym, ap}
+use Rattle.std.proofs.Common.{◌≡◌, ◌∙◌, Err, ap}
 use Rattle.pastry.specs.declared.outcome.TopFault.TheVariants as fault
 use Rattle.pastry.proofs.threads.run_read.Goals as goal
 

@@ -3,7 +3,6 @@ use Rattle.ring_math.specs.Names.{Id}
 use Rattle.overlay_rules.specs.declared.entry.Entry.{Entry}
 use Rattle.overlay_rules.specs.Record.{IsRecord}
 use Rattle.scenario_reader.specs.Plain.{PlainScenario, ids}
-use Rattle.schedule.specs.Schedule.{setting_of}
 use Rattle.play_engine.proofs.Starting.{is_setting}
 use Rattle.pastry.specs.Headline.{Headline}
 use Rattle.pastry.proofs.threads.run_scenario.Goals as goal

@@ -5,7 +5,6 @@ use Rattle.step_facts.specs.Setting.{setting}
 use Rattle.scribe_core.specs.Entry.{GroupEntry, Written}
 use Rattle.scribe_core.specs.declared.entry.GroupEvent.TheVariants as event
 use Rattle.scribe_core.specs.declared.message.GroupCommand.TheVariants as command
-use Rattle.scribe_core.specs.declared.note.GroupNote.{GroupNote}
 use Rattle.scribe_core.specs.declared.note.GroupNote.TheVariants as note
 use Rattle.scribe_core.specs.Laws.{overlay_of}
 use Rattle.scribe_core.specs.Parts.{Command}

@@ -1,7 +1,7 @@
-use Rattle.std.proofs.Common.{◌≡◌, ◌+◌, ◌<◌, ◌≤◌, ℕ, List, length, take, refl, subst, sym, true≢false, arith}
+use Rattle.std.proofs.Common.{◌+◌, ℕ, List, take, refl, subst, sym, true≢false, arith}
 use Rattle.std.proofs.lemmas.List.{length-take-le}
 use Rattle.overlay_rules.specs.declared.entry.Entry.{Entry}
-use Rattle.overlay_rules.specs.Record.{Setting, sent_in, world_after}
+use Rattle.overlay_rules.specs.Record.{Setting, world_after}
 use Rattle.step_facts.specs.Setting.{setting}
 use Rattle.trace_check.specs.Replays.{IsReplayedOrWrong}
 use Rattle.trace_check.specs.Verdicts.{IsWrongIn}

@@ -1,4 +1,4 @@
-use Rattle.std.proofs.Common.{◌≡◌, ◌<◌, map, length, arith}
+use Rattle.std.proofs.Common.{arith}
 use Rattle.std.proofs.lemmas.Bool.Decides.{not_from_Decides}
 use Rattle.wire_msg.specs.Words.{plain_envelope, plain_sent}
 use Rattle.overlay_rules.specs.Record.{enveloped, unstamped}

@@ -1,7 +1,5 @@
-use Rattle.std.proofs.Common.{◌*◌, ◌+◌, ◌<◌, ◌≡◌, ℕ, true, slice_index, sym, ◌∙◌, arith}
-use Rattle.std.specs.List.{list_all}
+use Rattle.std.proofs.Common.{◌*◌, ◌+◌, ◌<◌, arith}
 use Rattle.std.proofs.lemmas.Bool.Decides.{nat_tests}
-use Rattle.trace_text.specs.Digits.{is_lower_digit}
 use Rattle.trace_text.proofs.Digits.{digit_at, digits_lower, no_digits, pair_more, pairs_done}
 use Rattle.trace_text.proofs.words.read_digits.Goals as goal
 

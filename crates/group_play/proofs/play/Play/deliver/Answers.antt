@@ -1,9 +1,9 @@
-use Rattle.std.proofs.Common.{◌≡◌, ◌∙◌, Some, ap, slice_get, subst, sym}
+use Rattle.std.proofs.Common.{◌∙◌, ap, subst, sym}
 use Rattle.scribe_core.specs.declared.entry.GroupEvent.{GroupEvent}
 use Rattle.scribe_core.specs.declared.entry.GroupEvent.TheVariants as event
 use Rattle.scribe_core.specs.Laws.{groups_in}
 use Rattle.scribe_core.specs.Parts.{Comes}
-use Rattle.scribe_core.specs.Record.{Visit, sent_in, visit_of}
+use Rattle.scribe_core.specs.Record.{Visit, visit_of}
 use Rattle.scribe_core.proofs.Receivers.{receiver_is_node}
 use Rattle.world_model.specs.Recorded.{setting_of, world_of}
 use Rattle.group_play.specs.declared.seats.Seats.{Seats}

@@ -1,4 +1,4 @@
-use Rattle.std.proofs.Common.{◌≡◌, ◌++◌, ◌∷◌, [], ℕ, Contains, subst, sym}
+use Rattle.std.proofs.Common.{◌++◌, ◌∷◌, [], ℕ, Contains, subst, sym}
 use Rattle.std.proofs.lemmas.Result.{IfOk-weaker}
 use Rattle.wire_msg.specs.Words.{plain}
 use Rattle.overlay_rules.specs.declared.entry.Event.TheVariants as event

@@ -1,4 +1,4 @@
-use Rattle.std.proofs.Common.{◌≡◌, ◌++◌, ◌∷◌, [], ℕ, Option, Contains, List, refl, subst, sym}
+use Rattle.std.proofs.Common.{◌++◌, ◌∷◌, [], ℕ, Contains, refl, subst, sym}
 use Rattle.std.proofs.lemmas.Bool.Decides.{not_from_Decides}
 use Rattle.std.proofs.lemmas.Result.{IfOk-weaker}
 use Rattle.overlay_rules.specs.declared.entry.Event.TheVariants as event
@@ -6,7 +6,6 @@ use Rattle.overlay_rules.specs.declared.entry.Entry.{Entry}
 use Rattle.overlay_rules.specs.Outcome.{Command}
 use Rattle.overlay_rules.specs.Record.{IsFresh}
 use Rattle.trace_check.specs.declared.numbers.Numbers.{Numbers}
-use Rattle.trace_check.specs.declared.verdict.Part.{Part}
 use Rattle.trace_check.specs.Numbers.{AreNumbersOf}
 use Rattle.trace_check.specs.Replays.{IsReplayedOrWrong, IsStepped, entry_with}
 use Rattle.trace_check.proofs.Following.{contains-at, no_new_number, replayed, world}
