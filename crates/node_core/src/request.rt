@@ -36,7 +36,7 @@ pub(crate) enum Served {
 }
 
 /// What becomes of a request for a key: a node that is not ready refuses it, and so does one that keeps the key for a joiner.
-pub(crate) fn served(node: &Node, key: Id) -> Served
+pub(crate) fn routed(node: &Node, key: Id) -> Served
     ensures { (request : PlainRequest) → IsServed node.now request key result }
 {
     match node.way(key) {

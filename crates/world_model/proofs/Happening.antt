@@ -1,5 +1,5 @@
 -- A world before an event, and after it.
-use Rattle.std.proofs.Common.{◌≡◌, ◌+◌, ℕ, List, [], ◌∷◌, length, map, slice_index, sym, ap, subst, ◌∙◌}
+use Rattle.std.proofs.Common.{◌≡◌, ◌+◌, ℕ, List, [], length, map, slice_index, sym, ap, subst, ◌∙◌}
 use Rattle.std.proofs.lemmas.List.Elements.{All-nil}
 use Rattle.ring_math.specs.Names.{Id, Stamp}
 use Rattle.wire_msg.specs.declared.note.Note.{Note}

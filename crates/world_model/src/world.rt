@@ -170,7 +170,8 @@ impl World {
         requires { message < length (sent_in self.now.entries) }
         ensures { ComesTo self.now (event.Deliver message) result }
     {
-        let envelope = &self.entries.sent()[message as usize];
+        let sent = self.entries.sent();
+        let envelope = &sent[message as usize];
         self.cells.place(envelope.receiver)
     }
 

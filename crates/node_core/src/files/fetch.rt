@@ -6,7 +6,7 @@ ghost use Rattle.overlay_rules.specs.State.{State};
 ghost use Rattle.overlay_rules.specs.Roots.{on_fetch as on_fetch_of, fetched};
 ghost use Rattle.node_core.specs.Rows.{IsRow};
 
-use crate::request::{Request, Served, served};
+use crate::request::{Request, Served, routed};
 use node_parts::{Node, Prepared, one_more};
 use overlay_rules::Asked;
 use ring_math::{FileId, OutOfMemory, key_of};
@@ -38,7 +38,7 @@ pub(crate) fn on_fetch(
 ) -> Result<Prepared, OutOfMemory>
     ensures { IsRow node.now request.now.wait (λ s. on_fetch_of s request.now.origin request.now.number hops file.now) result }
 {
-    match served(node, key_of(file)) {
+    match routed(node, key_of(file)) {
         Served::Here => {
             let reply = answer(node, alloc, file)?;
             request.replied(alloc, Asked::Fetch, reply)

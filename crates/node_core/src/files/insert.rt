@@ -14,7 +14,7 @@ ghost use Rattle.node_parts.specs.Plans.{Plans};
 ghost use Rattle.node_core.specs.Rows.{IsRow};
 ghost use Rattle.node_core.specs.Replies.{IsReply};
 
-use crate::request::{Request, Served, served};
+use crate::request::{Request, Served, routed};
 use crate::sends::sent_to_each;
 use file_store::Put;
 use node_parts::{Change, Node, PastChange, Prepared, StoreChange, one_more};
@@ -221,7 +221,7 @@ pub(crate) fn on_insert(
 ) -> Result<Prepared, OutOfMemory>
     ensures { IsRow node.now request.now.wait (λ s. on_insert_of s request.now.origin request.now.number hops file.now copies bytes.now) result }
 {
-    match served(node, key_of(file)) {
+    match routed(node, key_of(file)) {
         Served::Here => insert_here(node, alloc, request, file, copies, bytes),
         Served::On { node: next } => {
             let message = Message::Insert {

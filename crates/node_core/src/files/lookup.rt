@@ -10,7 +10,7 @@ ghost use Rattle.node_parts.specs.Change.{waited};
 ghost use Rattle.node_parts.specs.Plans.{Plans};
 ghost use Rattle.node_core.specs.Rows.{IsRow};
 
-use crate::request::{Request, Served, served};
+use crate::request::{Request, Served, routed};
 use node_parts::{Change, Node, Prepared, one_more};
 use overlay_rules::Asked;
 use ring_math::{Id, OutOfMemory};
@@ -61,7 +61,7 @@ pub(crate) fn on_lookup(
 ) -> Result<Prepared, OutOfMemory>
     ensures { IsRow node.now request.now.wait (λ s. on_lookup_of s request.now.origin request.now.number key hops) result }
 {
-    match served(node, key) {
+    match routed(node, key) {
         Served::Here => delivered(node.me, alloc, request, key, hops),
         Served::On { node: next } => {
             let message = Message::Lookup {

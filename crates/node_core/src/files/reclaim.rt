@@ -9,7 +9,7 @@ ghost use Rattle.node_parts.specs.Change.{changed, waited};
 ghost use Rattle.node_core.specs.Rows.{IsRow};
 
 use crate::files::ended::reply_each;
-use crate::request::{Request, Served, served};
+use crate::request::{Request, Served, routed};
 use node_parts::{Change, Node, PastChange, Prepared, StoreChange, Wait, one_more};
 use overlay_rules::Asked;
 use past_core::ReclaimWhat;
@@ -105,7 +105,7 @@ pub(crate) fn on_reclaim(
 ) -> Result<Prepared, OutOfMemory>
     ensures { IsRow node.now request.now.wait (λ s. on_reclaim_of s request.now.origin request.now.number hops file.now) result }
 {
-    match served(node, key_of(file)) {
+    match routed(node, key_of(file)) {
         Served::Here => reclaim_here(node, alloc, request, file),
         Served::On { node: next } => {
             let message = Message::Reclaim {

@@ -40,6 +40,6 @@ pub returns-in-Refused : goal.returns-in-Refused
 returns-in-Refused c = λ known h.
     let r : Request = c.args.request.now in
     let s : State = seen c.args.node.now known in
-    let P : Outcome → Type 0 = λ o. IfOk c.replied.result (λ p. Plans s p o) in
+    let P : Outcome → Type 0 = λ o. IfOk c.replied-in-Refused.result (λ p. Plans s p o) in
     fetch-refused P (waited r.wait s) r.origin r.number c.args.hops c.args.file.now c.key_of.result c.key_of.ensures
-    (λ next here. subst P (sym (c.in-Refused.ensures r known h asked.Fetch next here)) (c.replied.ensures s))
+    (λ next here. subst P (sym (c.in-Refused.ensures r known h asked.Fetch next here)) (c.replied-in-Refused.ensures s))

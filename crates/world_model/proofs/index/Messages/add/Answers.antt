@@ -1,4 +1,4 @@
-use Rattle.std.proofs.Common.{◌≡◌, ◌∙◌, ◌++◌, ◌≤◌, ◌<◌, ℕ, List, Bool, Option, length, sym, ap, subst, replicate, true, false, get_or}
+use Rattle.std.proofs.Common.{◌≡◌, ◌∙◌, ◌++◌, ◌≤◌, ◌<◌, ℕ, List, Bool, Option, length, ap, subst, replicate, true, false, get_or}
 use Rattle.world_model.specs.Index.{IsBelow, delivered_by, marked}
 use Rattle.world_model.proofs.Listing.{ListsMessages-more}
 use Rattle.world_model.proofs.index.Messages.add.Goals as goal

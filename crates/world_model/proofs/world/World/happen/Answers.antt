@@ -1,9 +1,9 @@
-use Rattle.std.proofs.Common.{◌≡◌, ◌∙◌, ◌+◌, ◌-◌, ◌++◌, ◌∷◌, [], ℕ, List, Option, All, Contains, length, map, slice_index, vec_len, refl, sym, ap, subst, arith}
+use Rattle.std.proofs.Common.{◌≡◌, ◌∙◌, ◌++◌, ◌∷◌, [], ℕ, List, Option, length, map, slice_index, vec_len, refl, sym, ap, subst}
 use Rattle.std.proofs.lemmas.List.{length-map}
-use Rattle.wire_msg.specs.Words.{Envelope, plain_sent}
+use Rattle.wire_msg.specs.Words.{plain_sent}
 use Rattle.overlay_rules.specs.State.{State}
 use Rattle.overlay_rules.specs.Step.{step}
-use Rattle.overlay_rules.specs.Record.{IsFresh, enveloped, sent_in, state_at}
+use Rattle.overlay_rules.specs.Record.{IsFresh, enveloped, state_at}
 use Rattle.overlay_rules.specs.Played.{entry_of}
 use Rattle.overlay_rules.specs.Outcome.{Input}
 use Rattle.overlay_rules.specs.declared.entry.Entry.{Entry}
@@ -14,11 +14,10 @@ use Rattle.node_parts.specs.Sound.{IsSound}
 use Rattle.node_core.specs.Inputs.{plain_input}
 use Rattle.world_model.specs.Recorded.{Recorded, setting_of, world_of, with_event}
 use Rattle.world_model.specs.Cells.{ids_of, id_at, AllStand}
-use Rattle.world_model.specs.Index.{HasRoom, IsBelow, ListsMessages, delivered_by}
+use Rattle.world_model.specs.Index.{IsBelow, ListsMessages, delivered_by}
 use Rattle.world_model.specs.Worlds.{ComesTo, IsWorld}
-use Rattle.world_model.proofs.MoreEvents.{IsWorld-with_event, comes-below, receivers-with_event}
-use Rattle.world_model.proofs.Listing.{receivers-count}
-use Rattle.world_model.proofs.Happening.{IsWorld-kept, entry-made, more-sent}
+use Rattle.world_model.proofs.MoreEvents.{IsWorld-with_event, comes-below}
+use Rattle.world_model.proofs.Happening.{IsWorld-kept, entry-made}
 use Rattle.world_model.proofs.world.World.happen.Goals as goal
 use Rattle.world_model.proofs.world.World.happen.Goals.{After-commit}
 
@@ -102,9 +101,10 @@ add-requires-2-clause-room c = c.in_ok-reserve.ensures.room
 
 pub add-requires-2-clause-below : goal.add-requires-2-clause-below
 add-requires-2-clause-below c =
+    let b : After-commit = (goal.at.add-requires-2-clause-below c).After-commit in
     subst (λ (o : Option ℕ). IsBelow (vec_len c.reserve.new.self.delivered) o) (sym c.delivered_message-delivered.ensures)
-    (subst (λ (k : ℕ). IsBelow k (delivered_by c.args.event)) (sym (c.reserve.new.self.delivered.ok.0 ∙ (listed c).marks.count))
-    (comes-below (past c) c.args.event c.args.place (comes c)))
+    (subst (λ (k : ℕ). IsBelow k (delivered_by c.args.event)) (sym (c.reserve.new.self.delivered.ok.0 ∙ (listed b).marks.count))
+    (comes-below (past b) c.args.event c.args.place (comes b)))
 
 -- ---- the world after it
 
@@ -123,8 +123,8 @@ stands c =
 pub invariant_of-self-2 : goal.invariant_of-self-2
 invariant_of-self-2 c =
     let b : After-commit = (goal.at.invariant_of-self-2 c).After-commit in
-    let count : c.len-count.result ≡ length (entry b).messages =
-    c.len-count.ensures ∙ sym (length-map c.as_slice.result.now plain_sent) ∙ ap length c.as_slice.ensures
+    let count : length c.as_slice-count.result.now ≡ length (entry b).messages =
+    sym (length-map c.as_slice-count.result.now plain_sent) ∙ ap length c.as_slice-count.ensures
     ∙ sym (length-map c.in_ok-messages.field-0.messages (enveloped c.next_stamp-stamp.result c.id.result)) in
     let lists : ListsMessages c.add-2.new.self ((past b).entries ++ entry b ∷ []) =
     c.add-2.ensures (past b).entries (entry b) (listed b) c.delivered_message-delivered.ensures count in

@@ -3,7 +3,7 @@ use Rattle.overlay_rules.specs.declared.request.Way.{Way}
 use Rattle.overlay_rules.specs.Routed.{served}
 use Rattle.node_parts.specs.Change.{waited}
 use Rattle.node_parts.specs.Seen.{seen}
-use Rattle.node_core.proofs.request.served.Goals as goal
+use Rattle.node_core.proofs.request.routed.Goals as goal
 
 pub returns-in-Here : goal.returns-in-Here
 returns-in-Here c = λ r known h. c.in-Here.ensures known r.wait h
