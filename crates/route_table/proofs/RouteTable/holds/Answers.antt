@@ -1,6 +1,5 @@
 use Rattle.std.proofs.Common.{◌≡◌, true, Some, sym, ap, ◌∙◌, arith}
 use Rattle.std.proofs.lemmas.Bool.{eq-eqb, eqb-true}
-use Rattle.ring_math.specs.Ring.{digit_of}
 use Rattle.route_table.specs.Entries.{entry_in}
 use Rattle.route_table.proofs.Learning.{learnt-before}
 use Rattle.route_table.proofs.RouteTable.holds.Goals as goal
