@@ -1,5 +1,5 @@
 -- The places of a table: what is read there as an entry, and where entries end.
-use Rattle.std.proofs.Common.{◌≡◌, ◌≢◌, ℕ, ◌<◌, ◌≤◌, ◌*◌, ◌+◌, true, false, ◌==◌, List, [], length, take, replicate, get_or, set, Option, Some, None}
+use Rattle.std.proofs.Common.{◌≡◌, ◌≢◌, ℕ, ◌<◌, ◌≤◌, ◌*◌, ◌+◌, Bool, cond, true, false, ◌==◌, List, [], length, take, replicate, get_or, set, Option, Some, None}
 use Rattle.std.proofs.Common.{refl, sym, ap, ◌∙◌, arith, inl, inr}
 use Rattle.std.specs.Prelude.{◌↔◌}
 use Rattle.std.specs.List.{Contains}
@@ -16,6 +16,16 @@ entry_some : (me y : ℕ) → y ≢ me → entry_at me y ≡ Some y
 entry_some me y ne = cond-false (y == me) None (Some y) (ne_eqb y me ne)
 
 -- ---- one place
+
+-- what stands for an identifier is this identifier, if it is any
+pub entry_is : (me y x : ℕ) → entry_at me y ≡ Some x → y ≡ x
+entry_is me y x e = one (y == me) e where
+  one : (b : Bool) → cond b None (Some y) ≡ Some x → y ≡ x
+  one true e = cc
+  one false e = cc
+
+pub read_at : (me : ℕ) (ids : List ℕ) (i y : ℕ) → i < length ids → y ≡ get_or ids i y → entry_at me y ≡ get_or (entries_at me ids) i (entry_at me y)
+read_at me ids i y lt read = sym (get_or-map (entry_at me) ids i y (entry_at me y) lt ∙ ap (entry_at me) (sym read))
 
 pub read_entry : (me : ℕ) (ids : List ℕ) (i y : ℕ) → i < length ids → y ≡ get_or ids i y → y == me ≡ false → Some y ≡ get_or (entries_at me ids) i (Some y)
 read_entry me ids i y lt read other =

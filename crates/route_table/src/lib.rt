@@ -66,7 +66,8 @@ fn nearer_than(id: Id, other: Id, from_other: u128, key: Id) -> bool
     ensures { result ≡ is_nearer id other key }
 {
     let from_id = dist(id, key);
-    from_id < from_other || from_id == from_other && cw(id, key) < cw(other, key)
+    // Most are farther, which the first comparison tells.
+    from_id <= from_other && (from_id < from_other || cw(id, key) < cw(other, key))
 }
 
 /// Whether an identifier shares at least `least` digits with the key and is nearer to it than another, whose distance
@@ -183,7 +184,7 @@ impl RouteTable {
         let mut distance = dist(than, key);
         let me = self.me();
         for id in self.filled() {
-            if *id != me && improves_on(*id, key, least, nearest, distance) {
+            if improves_on(*id, key, least, nearest, distance) && *id != me {
                 nearest = *id;
                 distance = dist(nearest, key);
             }

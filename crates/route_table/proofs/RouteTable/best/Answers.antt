@@ -6,9 +6,9 @@ use Rattle.std.proofs.lemmas.List.{take_all, length-map}
 use Rattle.ring_math.specs.Nearer.{improves}
 use Rattle.route_table.specs.Filled.{entry_at, entries_at}
 use Rattle.route_table.proofs.Found.{Nearest, nearest_kept, nearest_new, nearest_same, none_improves, closest_improves}
-use Rattle.route_table.proofs.Places.{read_entry, read_nothing}
+use Rattle.route_table.proofs.Places.{entry_is, read_at, read_entry, read_nothing}
 use Rattle.route_table.proofs.RouteTable.best.Goals as goal
-use Rattle.route_table.proofs.RouteTable.best.Goals.{then-ne+then-improves_on, else-ne, else-ne-via-then-ne+else-improves_on, else-ne-via-else-ne}
+use Rattle.route_table.proofs.RouteTable.best.Goals.{then-improves_on+then-ne, else-improves_on, else-improves_on-via-then-improves_on+else-ne, else-improves_on-via-else-improves_on}
 
 pub loop-id-preserved : goal.loop-id-preserved
 loop-id-preserved c =
@@ -18,28 +18,28 @@ loop-id-preserved c =
     let i = c.loop-id.id-index in
     let within = c.loop-id-test.true in
     let inside : i < length xs = omega (arith, within, length-map ids (entry_at me)) in
-    elim c.if-ne.branch [
-      | then-ne+then-improves_on w ↦
-          let good : improves c.args.key c.args.least c.loop-id.nearest c.id-item.result ≡ true = sym w.improves_on.ensures ∙ w.if-improves_on.true in
+    elim c.if-improves_on.branch [
+      | then-improves_on+then-ne w ↦
+          let good : improves c.args.key c.args.least c.loop-id.nearest c.id-item.result ≡ true = sym c.improves_on.ensures ∙ w.if-improves_on.true in
           let read : Some c.id-item.result ≡ get_or xs i (Some c.id-item.result) =
-          read_entry me ids i c.id-item.result within c.id-item.is (not-true _ (sym c.ne.ensures ∙ w.if-ne.true)) in
+          read_entry me ids i c.id-item.result within c.id-item.is (not-true _ (sym w.ne.ensures ∙ w.if-ne.true)) in
           record {
             so_far = subst (Nearest (take (i + 1) xs) c.args.key c.args.least c.args.than) (sym w.nearest-is)
                 (nearest_new c.args.key c.args.least c.args.than xs i c.id-item.result c.loop-id.nearest inside read good c.loop-id.invariant.so_far);
             distance = cc;
           }
-      | else-ne w ↦ record {
-        so_far = subst (Nearest (take (i + 1) xs) c.args.key c.args.least c.args.than) (sym w.nearest-is) (elim w.else-ne.branch [
-          | else-ne-via-then-ne+else-improves_on v ↦
-              let bad : improves c.args.key c.args.least c.loop-id.nearest c.id-item.result ≡ false = sym v.improves_on.ensures ∙ v.if-improves_on.false in
-              nearest_kept c.args.key c.args.least c.args.than xs i (Some c.id-item.result) c.loop-id.nearest inside
-              (read_entry me ids i c.id-item.result within c.id-item.is (not-true _ (sym c.ne.ensures ∙ v.if-ne.true)))
-              (λ x e. let same : c.id-item.result ≡ x = cc in subst (λ y. improves c.args.key c.args.least c.loop-id.nearest y ≡ false) same bad)
-              c.loop-id.invariant.so_far
-          | else-ne-via-else-ne v ↦
+      | else-improves_on w ↦ record {
+        so_far = subst (Nearest (take (i + 1) xs) c.args.key c.args.least c.args.than) (sym w.nearest-is) (elim w.else-improves_on.branch [
+          | else-improves_on-via-then-improves_on+else-ne v ↦
               nearest_kept c.args.key c.args.least c.args.than xs i None c.loop-id.nearest inside
-              (read_nothing me ids i c.id-item.result within c.id-item.is (not-false _ (sym c.ne.ensures ∙ v.if-ne.false)))
+              (read_nothing me ids i c.id-item.result within c.id-item.is (not-false _ (sym v.ne.ensures ∙ v.if-ne.false)))
               (λ x e. cc) c.loop-id.invariant.so_far
+          | else-improves_on-via-else-improves_on v ↦
+              let bad : improves c.args.key c.args.least c.loop-id.nearest c.id-item.result ≡ false = sym c.improves_on.ensures ∙ v.if-improves_on.false in
+              nearest_kept c.args.key c.args.least c.args.than xs i (entry_at me c.id-item.result) c.loop-id.nearest inside
+              (read_at me ids i c.id-item.result within c.id-item.is)
+              (λ x e. subst (λ y. improves c.args.key c.args.least c.loop-id.nearest y ≡ false) (entry_is me c.id-item.result x e) bad)
+              c.loop-id.invariant.so_far
         ]);
         distance = cc;
       }

@@ -3,4 +3,4 @@ use Rattle.weave.specs.ByStamp.{AreByStamp}
 use Rattle.weave.proofs.weaving.Weaving.add.Goals as goal
 
 pub event_of-requires : goal.event_of-requires
-event_of-requires c = subst AreByStamp (sym c.sent-2.ensures) c.requires.sorted
+event_of-requires c = subst AreByStamp (sym c.sent.ensures) c.requires.sorted
