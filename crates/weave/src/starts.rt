@@ -94,9 +94,12 @@ fn mark_of(id: Id) -> u16 {
     ((quarter ^ (quarter >> 16)) & 0xffff) as u16
 }
 
+/// How many stamps have a row for each envelope: not each entry sends a message, and not each message is among those sought in.
+const ROWS_EACH: usize = 4;
+
 /// Where envelopes stand that are by stamp and then by sender.
 pub(crate) fn starts_of(alloc: Global, envelopes: &[&Envelope]) -> Result<Starts, OutOfMemory> {
-    let mut starts = Starts::new(alloc, envelopes.len());
+    let mut starts = Starts::new(alloc, envelopes.len().saturating_mul(ROWS_EACH));
     for envelope in envelopes {
         starts.add(envelope.stamp, envelope.sender, 1)?;
     }
