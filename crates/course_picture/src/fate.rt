@@ -1,6 +1,5 @@
 //! How messages fared.
 
-
 use wire_msg::Envelope;
 
 /// How a message fared.

@@ -34,12 +34,7 @@ impl Starts {
     }
 
     /// So many envelopes more, of a stamp that is not lower than any before, and a sender.
-    pub(crate) fn add(
-        &mut self,
-        stamp: u64,
-        sender: Id,
-        count: usize,
-    ) -> Result<(), OutOfMemory> {
+    pub(crate) fn add(&mut self, stamp: u64, sender: Id, count: usize) -> Result<(), OutOfMemory> {
         let begin = self.marks.len();
         let row = stamp.min(self.last_row as u64) as usize;
         if self.rows.len() <= row {

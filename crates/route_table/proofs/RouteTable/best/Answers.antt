@@ -8,7 +8,8 @@ use Rattle.route_table.specs.Filled.{entry_at, entries_at}
 use Rattle.route_table.proofs.Found.{Nearest, nearest_kept, nearest_new, nearest_same, none_improves, closest_improves}
 use Rattle.route_table.proofs.Places.{entry_is, read_at, read_entry, read_nothing}
 use Rattle.route_table.proofs.RouteTable.best.Goals as goal
-use Rattle.route_table.proofs.RouteTable.best.Goals.{then-improves_on+then-ne, else-improves_on, else-improves_on-via-then-improves_on+else-ne, else-improves_on-via-else-improves_on}
+use Rattle.route_table.proofs.RouteTable.best.Goals.{then-improves_on+then-ne, else-improves_on, else-improves_on-via-then-improves_on+else-ne}
+use Rattle.route_table.proofs.RouteTable.best.Goals.{else-improves_on-via-else-improves_on}
 
 pub loop-id-preserved : goal.loop-id-preserved
 loop-id-preserved c =
