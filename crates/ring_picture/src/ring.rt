@@ -1,10 +1,10 @@
 //! The whole ring.
 
-ghost use Rattle.std.specs.Prelude.{◌≡◌, ◌++◌, ℕ, OnOk};
+ghost use Rattle.std.specs.Prelude.{◌≡◌, ◌++◌, ℕ, OnOk, length};
 ghost use Rattle.overlay_rules.specs.State.{State};
 ghost use Rattle.svg_text.specs.Picture.{text_of};
 ghost use Rattle.world_model.specs.Cells.{AllStand, ids_of};
-ghost use Rattle.ring_picture.specs.Layouts.{IsLayout};
+ghost use Rattle.ring_picture.specs.Layouts.{IsLayout, layout_of};
 ghost use Rattle.ring_picture.specs.Ring.{dots_picture, lines_picture, ring_picture, seats_picture};
 
 use crate::captions::{put_caption, put_legend};
@@ -32,27 +32,34 @@ pub fn put_ring(
     requires { ids_of cells.now ≡ nodes.now }
     ensures { (states : ℕ → State) → AllStand cells.now states → OnOk result (text.new ≡ text.old ++ text_of (ring_picture nodes.now states keys.now after)) }
 {
-    let layout = Layout::of(nodes.len());
     let seats = seats_of(alloc, cells, nodes)?;
     let ready = ready_ids(alloc, &seats)?;
-    put_seats(alloc, text, &layout, nodes, &seats, &ready, keys, after)
+    put_seats(alloc, text, nodes, &seats, &ready, keys, after)
 }
 
+/// The ring of these nodes, where these are their seats and these are ready.
 fn put_seats(
     alloc: Global,
     text: &mut Text,
-    layout: &Layout,
     nodes: &[Id],
     seats: &[Seat],
     ready: &[Id],
     keys: &[Id],
     after: u64,
 ) -> Result<(), OutOfMemory>
-    requires { IsLayout layout.now }
-    ensures { OnOk result (text.new ≡ text.old ++ text_of (seats_picture layout.now nodes.now seats.now ready.now keys.now after)) }
+    ensures { OnOk result (text.new ≡ text.old ++ text_of (seats_picture (layout_of (length nodes.now)) nodes.now seats.now ready.now keys.now after)) }
 {
-    put_lines(text, layout, seats, ready, keys)?;
-    put_dots(alloc, text, layout, nodes, seats, ready.len() as u64, after)
+    let layout = Layout::of(nodes.len());
+    put_lines(text, &layout, seats, ready, keys)?;
+    put_dots(
+        alloc,
+        text,
+        &layout,
+        nodes,
+        seats,
+        ready.len() as u64,
+        after,
+    )
 }
 
 /// What lies below the nodes.

@@ -1,6 +1,5 @@
 use Rattle.std.proofs.Common.{◌≡◌, ◌++◌, List, ℕ, length, ap, ◌∙◌}
 use Rattle.svg_text.specs.Picture.{text_of}
-use Rattle.ring_picture.specs.declared.layout.Layout.{Layout}
 use Rattle.ring_picture.specs.declared.seat.Seat.{Seat}
 use Rattle.ring_picture.specs.Layouts.{layout_of}
 use Rattle.ring_picture.specs.Ring.{seats_picture}
@@ -15,7 +14,6 @@ returns c = λ states stand.
     let after : ℕ = c.args.after in
     let seats : c.in_ok-seats.seats.items ≡ seats_of states nodes = c.in_ok-seats.ensures states stand in
     on_ok c.put_seats.result c.put_seats.ensures (λ written. written
-    ∙ ap (λ (a : Layout). c.args.text.now ++ text_of (seats_picture a nodes c.deref-2.result.now c.deref-3.result.now keys after)) c.of-layout.ensures.layout
     ∙ ap (λ (s : List Seat). c.args.text.now ++ text_of (seats_picture (layout_of (length nodes)) nodes s c.deref-3.result.now keys after))
     (c.deref-2.ensures.value ∙ seats)
     ∙ ap (λ (r : List ℕ). c.args.text.now ++ text_of (seats_picture (layout_of (length nodes)) nodes (seats_of states nodes) r keys after))
