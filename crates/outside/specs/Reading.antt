@@ -10,10 +10,10 @@ abbrev pub outcome_of : {V : Type 0} → (V → ℕ) → Result V ReadFault → 
 outcome_of size (Ok read) = Ok (size read)
 outcome_of size (Err fault) = Err fault
 
--- with so many bytes read of the most that are wanted, a call has room for those that are wanting, but for 4,096 at most
+-- with so many bytes read of the most that are wanted, a call has room for those that are wanting, but for 65,536 at most
 pub record Offers (read most room : ℕ) : Type 0 where
   pub wants : read < most
-  pub asks : room ≡ min 4096 (most - read)
+  pub asks : room ≡ min 65536 (most - read)
 
 -- from one source, with so many bytes read, to another by calls: until the most that are wanted were read, or to the
 -- end, or to a fault; the outcome counts all bytes that were read

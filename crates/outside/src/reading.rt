@@ -28,7 +28,7 @@ impl From<AllocError> for ReadFault {
 }
 
 /// The most bytes that are asked for in one call.
-const BUFFER: usize = 4096;
+const BUFFER: usize = 65536;
 
 /// Reads a source to its end, or up to `most` bytes where it has more. It asks for no byte beyond them, so what is left
 /// stays in the source.

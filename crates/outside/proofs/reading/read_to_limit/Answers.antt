@@ -9,7 +9,7 @@ use Rattle.outside.proofs.Telling.{Told-then}
 use Rattle.outside.proofs.reading.read_to_limit.Goals as goal
 
 -- the part of the buffer that is lent to a call is what the definition says
-offers : (buf : List ℕ) (read most room : ℕ) → length buf ≡ 4096 → read < most → room ≡ min 4096 (most - read) → Offers read most (length (take room buf))
+offers : (buf : List ℕ) (read most room : ℕ) → length buf ≡ 65536 → read < most → room ≡ min 65536 (most - read) → Offers read most (length (take room buf))
 offers buf read most room whole short is = record { wants = short; asks = omega (arith, length-take room buf) }
 
 -- what holds of want of memory holds of the fault that `?` hands on
