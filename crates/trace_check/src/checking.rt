@@ -7,6 +7,7 @@ ghost use Rattle.overlay_rules.specs.Record.{IsSetting, Legal};
 ghost use Rattle.step_facts.specs.Setting.{setting};
 ghost use Rattle.trace_check.specs.Verdicts.{IsVerdict, is_legal};
 
+use crate::ahead::Ahead;
 use crate::replay::Replay;
 use crate::verdict::Verdict;
 use overlay_rules::Entries;
@@ -46,7 +47,9 @@ fn check_entries(
     let mut replay = Replay::new(alloc, nodes, founder)?;
     let all = entries.sent();
     let mut sent: usize = 0;
+    let mut ahead = Ahead::none();
     for place in 0..entries.len() {
+        ahead.reach(entries, place);
         if let Some(part) = replay.follow(alloc, entries, place, &all[..sent])? {
             return Ok(Verdict::Wrong {
                 entry: place as u64 + 1,

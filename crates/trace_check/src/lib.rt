@@ -4,6 +4,7 @@
 //! sent and noted has to be what the step of its node sends and notes. Stamps are not read.
 #![tactic(auto)]
 
+mod ahead;
 mod checking;
 mod laws;
 mod numbers;

@@ -1,7 +1,7 @@
 -- Digits of hexadecimal in lower case, and decimal digits: what is written is read, and what is read was written so.
 use Rattle.std.proofs.Common.{◌≡◌, ℕ, suc, ◌+◌, ◌*◌, ◌/◌, ◌%◌, ◌<◌, Bool, true, false, cond, ◌&&◌, eqb, List, [], ◌∷◌}
 use Rattle.std.proofs.Common.{zero, ◌++◌, ◌≤◌, length, take, slice_set, append_assoc}
-use Rattle.std.proofs.lemmas.List.{take_all, take_more, take_more_set}
+use Rattle.std.proofs.lemmas.List.{take-take, take_all, take_more, take_more_set}
 use Rattle.std.proofs.Common.{slice_index, Option, Some, None, unwrap_or, Result, Ok, Err, refl, sym, ap, subst, ◌∙◌, arith}
 use Rattle.std.specs.Prelude.{nat_lt, MatchResult}
 use Rattle.std.specs.List.{list_all}
@@ -171,6 +171,74 @@ two_more text i within =
 pub no_digits : (text bytes : List ℕ) → AreDigitsOf (take 0 text) (take 0 bytes)
 unfolding encode_with
 no_digits text bytes = record { text_is = refl; are_bytes = AreBytes-none }
+
+-- a pair of digits, and the byte that they spell
+pub record IsPairAt (text bytes : List ℕ) (i : ℕ) : Type 0 where
+  pub high : ℕ
+  pub low : ℕ
+  pub high_small : high < 16
+  pub low_small : low < 16
+  pub high_is : slice_index lower_digits high ≡ slice_index text (2 * i)
+  pub low_is : slice_index lower_digits low ≡ slice_index text (2 * i + 1)
+  pub value_is : slice_index bytes i ≡ high * 16 + low
+
+-- one pair more
+pub pair_read : (text bytes : List ℕ) (i : ℕ) → 2 * i + 1 < length text → i < length bytes → IsPairAt text bytes i →
+    AreDigitsOf (take (2 * i) text) (take i bytes) → AreDigitsOf (take (2 * (i + 1)) text) (take (i + 1) bytes)
+pair_read text bytes i within room pair before =
+    let value = slice_index bytes i in
+    let one = encoded_one value in
+    let high_told : value / 16 ≡ pair.high = omega (arith, pair.value_is, pair.high_small, pair.low_small) in
+    let low_told : value % 16 ≡ pair.low = omega (arith, pair.value_is, pair.high_small, pair.low_small) in
+    let spelled : slice_index text (2 * i) ∷ slice_index text (2 * i + 1) ∷ [] ≡ encode_lower (value ∷ []) =
+    sym (one ∙ ap (λ (d : ℕ). slice_index lower_digits d ∷ slice_index lower_digits (value % 16) ∷ []) high_told
+    ∙ ap (λ (d : ℕ). slice_index lower_digits pair.high ∷ slice_index lower_digits d ∷ []) low_told
+    ∙ ap (λ (d : ℕ). d ∷ slice_index lower_digits pair.low ∷ []) pair.high_is
+    ∙ ap (λ (d : ℕ). slice_index text (2 * i) ∷ d ∷ []) pair.low_is) in
+    let read : AreDigitsOf (take (2 * (i + 1)) text) (take i bytes ++ value ∷ []) = record {
+      text_is = two_more text i within ∙ ap (λ (t : List ℕ). take (2 * i) text ++ t) spelled
+          ∙ ap (λ (t : List ℕ). t ++ encode_lower (value ∷ [])) before.text_is
+          ∙ sym (encoded_then (take i bytes) (value ∷ []));
+      are_bytes = AreBytes-append (take i bytes) (value ∷ []) before.are_bytes
+          (AreBytes-more value [] (omega (arith, pair.value_is, pair.high_small, pair.low_small)) AreBytes-none);
+    } in
+    subst (AreDigitsOf (take (2 * (i + 1)) text)) (sym (take_more bytes i 0 room)) read
+
+-- several pairs more
+pub pairs_more : (text bytes : List ℕ) (i n : ℕ) → 2 * (i + n) ≤ length text → i + n ≤ length bytes → ((k : ℕ) → k < n → IsPairAt text bytes (i + k)) →
+    AreDigitsOf (take (2 * i) text) (take i bytes) → AreDigitsOf (take (2 * (i + n)) text) (take (i + n) bytes)
+pairs_more text bytes i zero within room pairs before =
+    let same : i + 0 ≡ i = omega arith in
+    subst (λ (m : ℕ). AreDigitsOf (take (2 * m) text) (take m bytes)) (sym same) before
+pairs_more text bytes i (suc n) within room pairs before =
+    let same : i + n + 1 ≡ i + suc n = omega arith in
+    subst (λ (m : ℕ). AreDigitsOf (take (2 * m) text) (take m bytes)) same
+    (pair_read text bytes (i + n) (omega arith) (omega arith) (pairs n (omega arith))
+    (pairs_more text bytes i n (omega arith) (omega arith) (λ k lt. pairs k (omega arith)) before))
+
+-- fewer pairs
+AreBytes-take : (n : ℕ) (bytes : List ℕ) → AreBytes bytes → AreBytes (take n bytes)
+AreBytes-take zero bytes fit = AreBytes-none
+AreBytes-take (suc n) [] fit = AreBytes-none
+AreBytes-take (suc n) (b ∷ bytes) fit = AreBytes-more b (take n bytes) (fit 0) (AreBytes-take n bytes (λ i. fit (suc i)))
+
+encoded_front : (n : ℕ) (xs : List ℕ) → take (2 * n) (encode_lower xs) ≡ encode_lower (take n xs)
+unfolding encode_with
+encoded_front zero xs = refl
+encoded_front (suc n) [] =
+    let two : 2 * suc n ≡ suc (suc (2 * n)) = omega arith in
+    ap (λ (k : ℕ). take k (encode_lower [])) two
+encoded_front (suc n) (x ∷ xs) =
+    let two : 2 * suc n ≡ suc (suc (2 * n)) = omega arith in
+    ap (λ (k : ℕ). take k (encode_lower (x ∷ xs))) two
+    ∙ ap (λ (t : List ℕ). slice_index lower_digits (x / 16) ∷ slice_index lower_digits (x % 16) ∷ t) (encoded_front n xs)
+
+pub fewer_pairs : (text bytes : List ℕ) (i n : ℕ) → n ≤ i → AreDigitsOf (take (2 * i) text) (take i bytes) → AreDigitsOf (take (2 * n) text) (take n bytes)
+fewer_pairs text bytes i n fewer read = record {
+  text_is = sym (take-take (2 * n) (2 * i) text (omega (arith, fewer))) ∙ ap (take (2 * n)) read.text_is ∙ encoded_front n (take i bytes)
+      ∙ ap encode_lower (take-take n i bytes fewer);
+  are_bytes = subst AreBytes (take-take n i bytes fewer) (AreBytes-take n (take i bytes) read.are_bytes);
+}
 
 -- one pair more
 pub pair_more : (text bytes : List ℕ) (i high low value : ℕ) → 2 * i + 1 < length text → i < length bytes → high < 16 → low < 16 →

@@ -1,6 +1,8 @@
 pub mod Cuts
 pub mod Bytes
 pub mod Digits
+pub mod Values
+pub mod Vectors
 pub mod Ids
 pub mod Spelled
 pub mod Fronts

@@ -3,21 +3,22 @@
 ghost use Rattle.std.specs.Prelude.{◌≡◌};
 ghost use Rattle.trace_text.specs.Answers.{Gives};
 ghost use Rattle.trace_text.specs.Fronts as fronts;
-ghost use Rattle.trace_text.specs.Fronts.{after, begun, plain_front, with_founder, with_node};
+ghost use Rattle.trace_text.specs.Fronts.{after, plain_front, with_founder, with_node};
 ghost use Rattle.trace_text.specs.Traces.{trace_of};
 ghost use Rattle.trace_text.specs.Lines as lines;
 ghost use Rattle.trace_text.specs.Lines.{plain_line};
 ghost use Rattle.wire_msg.specs.Words.{plain_envelope};
 
 use crate::fault::Refusal;
+use crate::last_entry::LastEntry;
 use crate::line::Line;
 use crate::trace::{Nodes, Trace};
-use overlay_rules::{Entries, Entry, Event, Record};
+use overlay_rules::{Entries, Event, Record};
 use ring_math::Id;
 use scenario_reader::MOST_NODES;
 use std::alloc::Global;
 use std::mem;
-use wire_msg::{Envelope, Envelopes, Note, Notes};
+use wire_msg::{Envelope, Note};
 
 /// What was read so far.
 #[derive(Drop)]
@@ -36,7 +37,7 @@ pub(crate) enum Front {
         nodes: Nodes,
         founder: Id,
         whole: Entries,
-        last: Entry,
+        last: LastEntry,
     },
     /// A whole trace.
     End(Trace),
@@ -111,13 +112,12 @@ impl Front {
                     nodes,
                     founder,
                     whole: Entries::new(alloc),
-                    last: begun(alloc, event),
+                    last: LastEntry::begun(alloc, event),
                 };
                 Ok(())
             }
             Front::Entries { whole, last, .. } => {
-                let before = mem::replace(last, begun(alloc, event));
-                whole.push(before)?;
+                last.give_way(whole, event)?;
                 Ok(())
             }
             _ => Err(Refusal::NotAllowed),
@@ -130,10 +130,10 @@ impl Front {
     {
         match self {
             Front::Entries { last, .. } => {
-                if !last.notes.as_slice().is_empty() {
+                if !last.may_send() {
                     return Err(Refusal::NotAllowed);
                 }
-                last.messages.push(envelope)?;
+                last.send(envelope)?;
                 Ok(())
             }
             _ => Err(Refusal::NotAllowed),
@@ -146,7 +146,7 @@ impl Front {
     {
         match self {
             Front::Entries { last, .. } => {
-                last.notes.push(note)?;
+                last.note(note)?;
                 Ok(())
             }
             _ => Err(Refusal::NotAllowed),
@@ -176,7 +176,7 @@ impl Front {
                 last,
             } => {
                 let mut entries = whole;
-                entries.push(last)?;
+                last.end(&mut entries)?;
                 Ok(whole_trace(nodes, founder, entries, skipped))
             }
             _ => Err(Refusal::NotAllowed),
@@ -202,17 +202,6 @@ fn with_founder(nodes: Nodes, founder: Id) -> Result<Front, Refusal>
         Ok(Front::Founder { nodes, founder })
     } else {
         Err(Refusal::NotAllowed)
-    }
-}
-
-/// An entry of which only the event was read.
-fn begun(alloc: Global, event: Event) -> Entry
-    ensures { result ≡ begun event }
-{
-    Entry {
-        event,
-        messages: Envelopes::new(alloc),
-        notes: Notes::new(alloc),
     }
 }
 

@@ -4,6 +4,8 @@
 mod fault;
 mod form;
 mod front;
+mod lanes;
+mod last_entry;
 mod laws;
 mod limits;
 mod line;

@@ -2,12 +2,11 @@
 
 ghost use Rattle.std.specs.Prelude.{◌≡◌, ◌*◌, ◌++◌, ◌∷◌, ◌<◌, ℕ, true, length, slice_index, IfErr, IsTrue, List, MatchOption, OnOk};
 ghost use Rattle.std.specs.List.{list_all};
-ghost use Rattle.hex.specs.Hex.{lower_digits};
 ghost use Rattle.trace_text.specs.Answers.{Finds, Fails};
 ghost use Rattle.trace_text.specs.Digits.{is_lower_digit, lacks, AreDigitsOf, IsIdText, IsNumberText};
-ghost use Rattle.trace_text.specs.declared.words.TheConstants.{NO_DIGIT};
 
 use crate::fault::Refusal;
+use crate::lanes::read_digits;
 use memchr::memchr;
 use ring_math::{Id, id_from_hex};
 use scenario_reader::number;
@@ -56,40 +55,6 @@ pub(crate) fn number_in(text: &[u8]) -> Result<u64, Refusal>
         Some(n) => Ok(n),
         None => Err(Refusal::NotAllowed),
     }
-}
-
-/// What stands for the value of a byte that is no digit.
-const NO_DIGIT: u8 = 16;
-
-/// The value of a digit in lower case, and [`NO_DIGIT`] of any other byte.
-fn digit_value(byte: u8) -> u8
-    ensures digit { result < NO_DIGIT → slice_index lower_digits result ≡ byte }
-    ensures lower { is_lower_digit byte ≡ true → result < NO_DIGIT }
-{
-    if byte >= b'0' && byte <= b'9' {
-        byte - b'0'
-    } else if byte >= b'a' && byte <= b'f' {
-        byte - b'a' + 10
-    } else {
-        NO_DIGIT
-    }
-}
-
-/// Reads the digits of a word in pairs, and answers whether all of them are digits in lower case. It answers when all are read,
-/// and not at the first that is none, so that many are read at once.
-fn read_digits(text: &[u8], bytes: &mut [u8]) -> bool
-    requires { length text.now ≡ 2 * length bytes.old }
-    ensures read { IsTrue result → AreDigitsOf text.now bytes.new }
-    ensures spelled { (spelled : List ℕ) → AreDigitsOf text.now spelled → IsTrue result }
-{
-    let mut greatest = 0;
-    for place in 0..bytes.len() {
-        let high = digit_value(text[2 * place]);
-        let low = digit_value(text[2 * place + 1]);
-        greatest = greatest.max(high).max(low);
-        bytes[place] = high.wrapping_mul(16).wrapping_add(low);
-    }
-    greatest < NO_DIGIT
 }
 
 /// Puts the bytes whose digits a word is into the buffer, in the place of what was there.

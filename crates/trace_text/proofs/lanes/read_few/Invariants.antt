@@ -1,7 +1,7 @@
 use Rattle.std.proofs.Common.{◌≡◌, ◌*◌, ◌<◌, true, take}
 use Rattle.std.specs.List.{list_all}
 use Rattle.trace_text.specs.Digits.{is_lower_digit, AreDigitsOf}
-use Rattle.trace_text.proofs.words.read_digits.Given as goal
+use Rattle.trace_text.proofs.lanes.read_few.Given as goal
 
 abbrev pub invariant-loop-place : goal.invariant-loop-place
 invariant-loop-place l = record {

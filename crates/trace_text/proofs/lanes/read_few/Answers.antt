@@ -1,7 +1,7 @@
 use Rattle.std.proofs.Common.{◌*◌, ◌+◌, ◌<◌, arith}
 use Rattle.std.proofs.lemmas.Bool.Decides.{nat_tests}
-use Rattle.trace_text.proofs.Digits.{digit_at, digits_lower, no_digits, pair_more, pairs_done}
-use Rattle.trace_text.proofs.words.read_digits.Goals as goal
+use Rattle.trace_text.proofs.Digits.{digit_at, no_digits, pair_more, pairs_done}
+use Rattle.trace_text.proofs.lanes.read_few.Goals as goal
 
 pub loop-place-init : goal.loop-place-init
 loop-place-init c = record { read = λ small. no_digits c.args.text.now c.args.bytes.now; lower = λ lower. omega arith }
@@ -26,6 +26,6 @@ returns-clause-read c = λ is. pairs_done c.args.text.now c.loop-place.bytes c.l
     (c.loop-place.invariant.read (grind (arith, nat_tests, is)))
 
 pub returns-clause-spelled : goal.returns-clause-spelled
-returns-clause-spelled c = λ spelled digits.
-    let small = c.loop-place.invariant.lower (digits_lower c.args.text.now spelled digits) in
+returns-clause-spelled c = λ lower.
+    let small = c.loop-place.invariant.lower lower in
     grind (arith, nat_tests, small)

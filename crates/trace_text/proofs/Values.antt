@@ -1,0 +1,29 @@
+-- The values of digits, each computed and not looked up.
+use Rattle.std.proofs.Common.{◌≡◌, ℕ, ◌+◌, ◌-◌, ◌%◌, ◌<◌, Bool, true, false, cond, ◌&&◌, eqb, slice_index, refl, sym, arith, ◌∙◌, ap}
+use Rattle.std.specs.Prelude.{nat_lt}
+use Rattle.std.proofs.lemmas.Bool.{and_parts, eqb-true, ltb-true, lt-ltb}
+use Rattle.hex.specs.Hex.{lower_digits}
+use Rattle.trace_text.specs.Digits.{is_lower_digit}
+use Rattle.trace_text.specs.Lanes.{IsValueOf}
+use Rattle.text_writer.proofs.Tables.{all_below-at}
+
+-- as the lanes of a vector compute it
+abbrev pub value_of_lane : ℕ → ℕ
+value_of_lane d =
+    cond (nat_lt ((d + 256 - 48) % 256) 10) ((d + 256 - 48) % 256) (cond (nat_lt ((d + 256 - 97) % 256) 6) (((d + 256 - 97) % 256 + 10) % 256) 16)
+
+abbrev reads_back : ℕ → Bool
+reads_back d = cond (nat_lt (value_of_lane d) 16) (eqb (slice_index lower_digits (value_of_lane d)) d) true
+    && cond (is_lower_digit d) (nat_lt (value_of_lane d) 16) true
+
+pub lane_value : (d : ℕ) → d < 256 → IsValueOf d (value_of_lane d)
+lane_value d small =
+    let tried : reads_back d ≡ true = all_below-at reads_back 256 d refl small in
+    let parts = and_parts (cond (nat_lt (value_of_lane d) 16) (eqb (slice_index lower_digits (value_of_lane d)) d) true)
+    (cond (is_lower_digit d) (nat_lt (value_of_lane d) 16) true) tried in
+    record {
+      digit_is = λ below.
+          let test : nat_lt (value_of_lane d) 16 ≡ true = lt-ltb (value_of_lane d) 16 below in
+          eqb-true (slice_index lower_digits (value_of_lane d)) d (rw test at parts.0);
+      lower = λ lower. ltb-true (value_of_lane d) 16 (rw lower at parts.1);
+    }

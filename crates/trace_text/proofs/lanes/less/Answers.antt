@@ -1,0 +1,14 @@
+use Rattle.std.proofs.Common.{replicate, arith, ◌+◌, ◌-◌, ◌%◌, ◌∙◌, ap, refl}
+use Rattle.std.specs.Prelude.{slice_index}
+use Rattle.std.proofs.lemmas.Simd.{get_or-replicate}
+use Rattle.trace_text.proofs.Vectors.{operated}
+use Rattle.trace_text.proofs.lanes.less.Goals as goal
+
+pub returns : goal.returns
+returns c =
+    let lanes = operated (λ a b. (a + (256 - b)) % 256) c.args.lanes (replicate 16 c.args.byte) c.fits-lanes.0 refl in
+    record {
+      long = lanes.long;
+      each = λ k h. lanes.each k h ∙ ap (λ b. (slice_index c.args.lanes k + (256 - b)) % 256) (get_or-replicate 16 k c.args.byte 0 h)
+          ∙ ap (λ n. n % 256) (omega arith);
+    }

@@ -1,0 +1,8 @@
+use Rattle.std.proofs.lemmas.Simd.{length-chunk, get_or-chunk}
+use Rattle.trace_text.proofs.lanes.load.Goals as goal
+
+pub returns : goal.returns
+returns c = record {
+  long = length-chunk c.args.place 16 c.args.bytes.now c.requires;
+  each = λ k h. get_or-chunk c.args.place 16 c.args.bytes.now k 0 h;
+}
