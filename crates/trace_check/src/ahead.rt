@@ -10,6 +10,7 @@ use ring_math::Id;
 const AHEAD: usize = 16;
 
 /// The receivers that were seen last.
+#[derive(Drop)]
 pub(crate) struct Ahead {
     receivers: [Id; AHEAD],
 }

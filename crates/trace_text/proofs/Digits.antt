@@ -1,7 +1,7 @@
 -- Digits of hexadecimal in lower case, and decimal digits: what is written is read, and what is read was written so.
 use Rattle.std.proofs.Common.{◌≡◌, ℕ, suc, ◌+◌, ◌*◌, ◌/◌, ◌%◌, ◌<◌, Bool, true, false, cond, ◌&&◌, eqb, List, [], ◌∷◌}
-use Rattle.std.proofs.Common.{zero, ◌++◌, ◌≤◌, length, take, slice_set, append_assoc}
-use Rattle.std.proofs.lemmas.List.{take-take, take_all, take_more, take_more_set}
+use Rattle.std.proofs.Common.{zero, ◌++◌, ◌≤◌, drop, length, take, slice_set, append_assoc}
+use Rattle.std.proofs.lemmas.List.{take-append-drop, take-take, take_all, take_more, take_more_set}
 use Rattle.std.proofs.Common.{slice_index, Option, Some, None, unwrap_or, Result, Ok, Err, refl, sym, ap, subst, ◌∙◌, arith}
 use Rattle.std.specs.Prelude.{nat_lt, MatchResult}
 use Rattle.std.specs.List.{list_all}
@@ -154,6 +154,16 @@ unfolding encode_with
 encoded_then [] ys = refl
 encoded_then (x ∷ xs) ys =
     ap (λ (t : List ℕ). slice_index lower_digits (x / 16) ∷ slice_index lower_digits (x % 16) ∷ t) (encoded_then xs ys)
+
+-- the digits of the first bytes and of the others
+encoded_parts : (n : ℕ) (xs : List ℕ) → encode_lower (take n xs) ++ encode_lower (drop n xs) ≡ encode_lower xs
+encoded_parts n xs = sym (encoded_then (take n xs) (drop n xs)) ∙ ap encode_lower (take-append-drop n xs)
+
+pub digits_then : (text new block rest all : List ℕ) (n : ℕ) → new ≡ text ++ block → block ≡ encode_lower (take n rest) →
+    text ++ encode_lower rest ≡ all → new ++ encode_lower (drop n rest) ≡ all
+digits_then text new block rest all n one is before =
+    ap (λ (t : List ℕ). t ++ encode_lower (drop n rest)) (one ∙ ap (λ (b : List ℕ). text ++ b) is)
+    ∙ append_assoc text (encode_lower (take n rest)) (encode_lower (drop n rest)) ∙ ap (λ (t : List ℕ). text ++ t) (encoded_parts n rest) ∙ before
 
 encoded_one : (x : ℕ) → encode_lower (x ∷ []) ≡ slice_index lower_digits (x / 16) ∷ slice_index lower_digits (x % 16) ∷ []
 unfolding encode_with

@@ -1,12 +1,14 @@
 -- Vectors of sixteen bytes, lane by lane.
-use Rattle.std.proofs.Common.{◌≡◌, ℕ, zero, suc, ◌+◌, ◌*◌, ◌%◌, ◌^◌, ◌<◌, ◌≤◌, Bool, true, false, cond, List, [], ◌∷◌, length, map, replicate, get_or, slice_index, ◌++◌, ◌-◌, ◌⊎◌, inl, inr}
+use Rattle.std.proofs.Common.{◌≡◌, ℕ, zero, suc, ◌+◌, ◌*◌, ◌/◌, ◌%◌, ◌^◌, ◌<◌, ◌≤◌, Bool, true, false, cond, List, [], ◌∷◌, length, map, replicate, get_or, slice_index, ◌++◌, ◌-◌, ◌⊎◌, inl, inr}
 use Rattle.std.proofs.Common.{refl, sym, ap, subst, ◌∙◌, arith, leb, w8}
 use Rattle.std.specs.List.{range_with_len}
 use Rattle.std.specs.Simd.Lanes.{zip2, sel_l, mask_l, put_chunk, top}
 use Rattle.std.specs.Prelude.{nat_lt, take, drop}
 use Rattle.std.proofs.lemmas.Bool.{cases_lt, leb-true, leb-false, ltb-true, ltb-false}
-use Rattle.std.proofs.lemmas.List.{get_or-append-add, get_or_append_left, length-map, length-take-le, take_at}
+use Rattle.std.proofs.lemmas.List.{get_or-append-add, get_or_append_left, ext_get_or, length-map, length-take-le, take_at}
 use Rattle.std.proofs.lemmas.Simd.{get_or-replicate, get_or-sel_l, get_or-zip2, length-sel_l, length-zip2, mask_l-mod, put_chunk_is, tops_compared, zip2_splat_left}
+use Rattle.hex.specs.Hex.{encode_lower, encode_with, lower_digits}
+use Rattle.hex.proofs.HexLemmas.{length-encode_with}
 use Rattle.trace_text.specs.Lanes.{HasLanes}
 
 -- ---- lanes that are written out
@@ -102,3 +104,36 @@ greater_below a b one other = greater_by a b (nat_lt a b) one other
 pub stored_behind : (i : ℕ) (xs ys : List ℕ) → i + length ys ≤ length xs → take i (put_chunk i xs ys) ≡ take i xs
 stored_behind i xs ys room =
     ap (take i) (put_chunk_is i xs ys room) ∙ take_at (take i xs) (ys ++ drop (length ys) (drop i xs)) i (omega (arith, length-take-le i xs (omega arith)))
+
+-- ---- digits of bytes, interleaved
+
+encoded_at : (xs : List ℕ) (k : ℕ) → k < length xs →
+    (get_or (encode_lower xs) (2 * k) 0 ≡ slice_index lower_digits (get_or xs k 0 / 16)) × (get_or (encode_lower xs) (2 * k + 1) 0 ≡ slice_index lower_digits (get_or xs k 0 % 16))
+unfolding encode_with
+encoded_at [] k lt = absurd (omega arith)
+encoded_at (x ∷ xs) zero lt = (refl, refl)
+encoded_at (x ∷ xs) (suc k) lt =
+    let ih = encoded_at xs k (omega arith) in
+    let even : 2 * suc k ≡ suc (suc (2 * k)) = omega arith in
+    let odd : 2 * suc k + 1 ≡ suc (suc (2 * k + 1)) = omega arith in
+    (ap (λ i. get_or (encode_lower (x ∷ xs)) i 0) even ∙ ih.0, ap (λ i. get_or (encode_lower (x ∷ xs)) i 0) odd ∙ ih.1)
+
+pub block_encoded : (block high low : List ℕ) → length block ≡ 16 → HasLanes high (λ k. slice_index lower_digits (slice_index block k / 16)) →
+    HasLanes low (λ k. slice_index lower_digits (slice_index block k % 16)) →
+    map (λ j. slice_index (high ++ low) (j / 2 + 16 * (j % 2))) (range_with_len 0 32) ≡ encode_lower block
+block_encoded block high low long of_high of_low =
+    let f : ℕ → ℕ = λ j. slice_index (high ++ low) (j / 2 + 16 * (j % 2)) in
+    let size : length (encode_lower block) ≡ 32 = length-encode_with lower_digits block ∙ omega (arith, long) in
+    ext_get_or 0 (map f (range_with_len 0 32)) (encode_lower block) (sym size) (λ j within. at_range f 0 32 j within ∙ by_half j within (cases_lt (j % 2) 1))
+  where
+    by_half : (j : ℕ) → j < 32 → (j % 2 < 1) ⊎ (1 ≤ j % 2) → slice_index (high ++ low) ((0 + j) / 2 + 16 * ((0 + j) % 2)) ≡ get_or (encode_lower block) j 0
+    by_half j within (inl even) =
+        let k : ℕ = j / 2 in
+        let there : 2 * k ≡ j = omega arith in
+        ap (λ i. slice_index (high ++ low) i) (omega arith) ∙ get_or_append_left high low 0 k (omega (arith, of_high.long)) ∙ of_high.each k (omega arith)
+        ∙ sym (encoded_at block k (omega (arith, long))).0 ∙ ap (λ i. get_or (encode_lower block) i 0) there
+    by_half j within (inr odd) =
+        let k : ℕ = j / 2 in
+        let there : 2 * k + 1 ≡ j = omega arith in
+        ap (λ i. slice_index (high ++ low) i) (omega (arith, of_high.long)) ∙ get_or-append-add high low k 0 ∙ of_low.each k (omega arith)
+        ∙ sym (encoded_at block k (omega (arith, long))).1 ∙ ap (λ i. get_or (encode_lower block) i 0) there

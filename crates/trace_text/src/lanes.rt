@@ -1,8 +1,8 @@
 //! Digits of hexadecimal, sixteen at a time.
 
-ghost use Rattle.std.specs.Prelude.{◌≡◌, ◌+◌, ◌-◌, ◌*◌, ◌%◌, ◌≤◌, ◌<◌, if◌then◌else◌, nat_lt, true, length, slice_index, IsTrue, List, ℕ, take};
-ghost use Rattle.std.specs.List.{list_all};
-ghost use Rattle.hex.specs.Hex.{lower_digits};
+ghost use Rattle.std.specs.Prelude.{◌≡◌, ◌+◌, ◌-◌, ◌*◌, ◌%◌, ◌≤◌, ◌<◌, if◌then◌else◌, nat_lt, true, length, slice_index, IsTrue, List, ℕ, ◌/◌, ◌++◌, map, take};
+ghost use Rattle.std.specs.List.{list_all, range_with_len};
+ghost use Rattle.hex.specs.Hex.{encode_lower, lower_digits};
 ghost use Rattle.trace_text.specs.Digits.{AreDigitsOf, is_lower_digit};
 ghost use Rattle.trace_text.specs.declared.lanes.TheConstants.{LANES, NO_DIGIT};
 ghost use Rattle.trace_text.specs.Lanes.{AreValuesOf, HasLanes};
@@ -12,8 +12,8 @@ use std::simd::prelude::*;
 /// What stands for the value of a byte that is no digit.
 const NO_DIGIT: u8 = 16;
 
-/// How many pairs of digits are read at once.
-const LANES: usize = 16;
+/// How many pairs of digits are read or written at once.
+pub(crate) const LANES: usize = 16;
 
 /// The lanes from a place on.
 fn load(bytes: &[u8], place: usize) -> u8x16
@@ -30,11 +30,11 @@ fn less(lanes: u8x16, byte: u8) -> u8x16
     lanes - u8x16::splat(byte)
 }
 
-/// Each lane, and ten more.
-fn ten_more(lanes: u8x16) -> u8x16
-    ensures { HasLanes result (λ k. (slice_index lanes k + 10) % 256) }
+/// Each lane, and a byte more.
+fn more(lanes: u8x16, byte: u8) -> u8x16
+    ensures { HasLanes result (λ k. (slice_index lanes k + byte) % 256) }
 {
-    lanes + u8x16::splat(10)
+    lanes + u8x16::splat(byte)
 }
 
 /// Where a lane is below a limit, that of one vector, and else that of the other.
@@ -50,7 +50,7 @@ fn digit_values(digits: u8x16) -> u8x16
 {
     let from_zero = less(digits, b'0');
     let from_a = less(digits, b'a');
-    let letters = where_below(from_a, 6, ten_more(from_a), u8x16::splat(NO_DIGIT));
+    let letters = where_below(from_a, 6, more(from_a, 10), u8x16::splat(NO_DIGIT));
     where_below(from_zero, 10, from_zero, letters)
 }
 
@@ -164,4 +164,51 @@ pub(crate) fn read_digits(text: &[u8], bytes: &mut [u8]) -> bool
     } else {
         read_many(text, bytes)
     }
+}
+
+/// The digits of values below sixteen.
+fn digits_of(values: u8x16) -> u8x16
+    requires { (k : ℕ) → k < 16 → slice_index values k < 16 }
+    ensures { HasLanes result (λ k. slice_index lower_digits (slice_index values k)) }
+{
+    where_below(values, 10, more(values, b'0'), more(values, b'a' - 10))
+}
+
+/// The high four bits of each lane.
+fn high_bits(lanes: u8x16) -> u8x16
+    ensures { HasLanes result (λ k. slice_index lanes k / 16) }
+{
+    lanes >> u8x16::splat(4)
+}
+
+/// The low four bits of each lane.
+fn low_bits(lanes: u8x16) -> u8x16
+    ensures { HasLanes result (λ k. slice_index lanes k % 16) }
+{
+    lanes & u8x16::splat(15)
+}
+
+/// The lanes of both, one of each after another.
+fn interleaved(high: u8x16, low: u8x16) -> [u8; 32]
+    ensures { result ≡ map (λ j. slice_index (high ++ low) (j / 2 + 16 * (j % 2))) (range_with_len 0 32) }
+{
+    let both: u8x32 = high.shuffle(
+        low,
+        [
+            0, 16, 1, 17, 2, 18, 3, 19, 4, 20, 5, 21, 6, 22, 7, 23, 8, 24, 9, 25, 10, 26, 11, 27,
+            12, 28, 13, 29, 14, 30, 15, 31,
+        ],
+    );
+    both.to_array()
+}
+
+/// Two digits for each of the first sixteen bytes.
+pub(crate) fn block_digits(bytes: &[u8]) -> [u8; 32]
+    requires { LANES ≤ length bytes.now }
+    ensures { result ≡ encode_lower (take LANES bytes.now) }
+{
+    let block = load(bytes, 0);
+    let high = digits_of(high_bits(block));
+    let low = digits_of(low_bits(block));
+    interleaved(high, low)
 }

@@ -12,6 +12,7 @@ ghost use Rattle.trace_text.specs.Lines as lines;
 ghost use Rattle.trace_text.specs.Traces.{IsTraceOf, entry_lines, setting_lines, setting_of, trace_of};
 ghost use Rattle.trace_text.specs.Writing.{WritesLines};
 
+use crate::lanes::{LANES, block_digits};
 use overlay_rules::{Entries, EntryRef, EventRef, Record};
 use ring_math::{Id, OutOfMemory};
 use std::alloc::Global;
@@ -157,8 +158,20 @@ fn put_hex(text: &mut Text, word: &[u8], bytes: &[u8]) -> Result<(), OutOfMemory
     ensures { OnOk result (text.new ≡ text.old ++ (word.now ++ encode_lower bytes.now ++ codes "\n")) }
 {
     text.put(word)?;
-    text.hex(bytes)?;
+    put_digits(text, bytes)?;
     text.put(b"\n")
+}
+
+/// Two digits for each byte, those of sixteen bytes at a time.
+fn put_digits(text: &mut Text, bytes: &[u8]) -> Result<(), OutOfMemory>
+    ensures { OnOk result (text.new ≡ text.old ++ encode_lower bytes.now) }
+{
+    let mut rest = bytes;
+    while rest.len() >= LANES {
+        text.put(&block_digits(rest))?;
+        rest = &rest[LANES..];
+    }
+    text.hex(rest)
 }
 
 fn put_messages(

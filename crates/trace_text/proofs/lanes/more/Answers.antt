@@ -2,12 +2,12 @@ use Rattle.std.proofs.Common.{replicate, ◌+◌, ◌%◌, ◌∙◌, ap, refl}
 use Rattle.std.specs.Prelude.{slice_index}
 use Rattle.std.proofs.lemmas.Simd.{get_or-replicate}
 use Rattle.trace_text.proofs.Vectors.{operated}
-use Rattle.trace_text.proofs.lanes.ten_more.Goals as goal
+use Rattle.trace_text.proofs.lanes.more.Goals as goal
 
 pub returns : goal.returns
 returns c =
-    let lanes = operated (λ a b. (a + b) % 256) c.args.lanes (replicate 16 10) c.fits-lanes.0 refl in
+    let lanes = operated (λ a b. (a + b) % 256) c.args.lanes (replicate 16 c.args.byte) c.fits-lanes.0 refl in
     record {
       long = lanes.long;
-      each = λ k h. lanes.each k h ∙ ap (λ b. (slice_index c.args.lanes k + b) % 256) (get_or-replicate 16 k 10 0 h);
+      each = λ k h. lanes.each k h ∙ ap (λ b. (slice_index c.args.lanes k + b) % 256) (get_or-replicate 16 k c.args.byte 0 h);
     }
