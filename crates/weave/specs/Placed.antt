@@ -23,7 +23,7 @@ pub record Placed : Type 0 where
   pub act : Act
 
 abbrev pub placed : CodeAct → Placed
-placed a = record { stamp = a.stamp; place = a.place; act = record { node = a.node; entry = plain_entry a.entry.now } }
+placed a = record { stamp = a.stamp; place = a.place; act = record { node = a.cell.now.node; entry = plain_entry a.entry.now } }
 
 abbrev pub acts_in : List Placed → List Act
 acts_in ps = map (λ (p : Placed). p.act) ps

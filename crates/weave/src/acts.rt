@@ -9,13 +9,23 @@ use node_cell::{CellEntry, NodeCell};
 use ring_math::{Id, OutOfMemory};
 use std::alloc::Global;
 
-/// An entry of a cell's history. Its stamp stands beside it, since entries are sorted by it.
+/// An entry of a cell's history. Its stamp stands beside it, since entries are sorted by it, and the cell in place of its node,
+/// since a sort moves each of them several times.
 #[derive(Clone, Copy)]
 pub(crate) struct Act<'a> {
     pub(crate) stamp: u64,
-    pub(crate) node: Id,
     pub(crate) place: usize,
+    pub(crate) cell: &'a NodeCell,
     pub(crate) entry: &'a CellEntry,
+}
+
+impl Act<'_> {
+    /// The node to which it came.
+    pub(crate) fn node(&self) -> Id
+        ensures { result ≡ (placed self.now).act.node }
+    {
+        self.cell.me()
+    }
 }
 
 /// All entries of the cells, in the woven order.
@@ -27,7 +37,7 @@ pub(crate) fn woven_order(alloc: Global, cells: &[NodeCell]) -> Result<Vec<Act<'
 {
     let mut acts = all_acts(alloc, cells)?;
     // The stable sort: it finds the histories, each of which is in order, and merges them.
-    acts.sort_by_key(|act| (act.stamp, act.node.0))?;
+    acts.sort_by_key(|act| (act.stamp, act.node().0))?;
     Ok(acts)
 }
 
@@ -47,14 +57,13 @@ fn add_history<'a>(acts: &mut Vec<Act<'a>>, cell: &'a NodeCell) -> Result<(), Ou
     ensures acts { OnOk result (map placed acts.new.items ≡ map placed acts.old.items ++ placed_in cell.now) }
     ensures lawful { IsLawful cell.now }
 {
-    let node = cell.me();
     let history = cell.history();
     acts.reserve(history.len())?;
     for (place, entry) in history.iter().enumerate() {
         acts.push_reserved(Act {
             stamp: entry.stamp,
-            node,
             place,
+            cell,
             entry,
         });
     }

@@ -5,6 +5,7 @@
 #![tactic(auto)]
 
 mod acts;
+mod ahead;
 mod fault;
 mod kept;
 mod reading;

@@ -1,7 +1,5 @@
 //! Where envelopes of a stamp and a sender may stand, in a list of envelopes by stamp and then by sender.
 
-ghost use Rattle.std.specs.Prelude.{◌≤◌, vec_len};
-
 use ring_math::{Id, OutOfMemory};
 use std::alloc::Global;
 use wire_msg::Envelope;
@@ -18,9 +16,9 @@ pub(crate) struct Starts {
 
 /// Where envelopes of one stamp stand.
 #[derive(Clone, Copy)]
-struct Stretch {
-    from: usize,
-    upto: usize,
+pub(crate) struct Stretch {
+    pub(crate) from: usize,
+    pub(crate) upto: usize,
 }
 
 impl Starts {
@@ -47,33 +45,34 @@ impl Starts {
 
     /// Where the first envelope of this stamp and sender may stand: the first of the stamp with the sender's mark.
     pub(crate) fn guess(&self, stamp: u64, sender: Id) -> Option<usize> {
+        self.first_of(self.near(stamp), sender)
+    }
+
+    /// Where the envelopes of this stamp stand, or nowhere, if nothing is told of it.
+    pub(crate) fn near(&self, stamp: u64) -> Stretch {
         if stamp >= self.last_row as u64 {
-            return None;
+            return Stretch { from: 0, upto: 0 };
         }
-        let near = self.stretch(stamp as usize);
+        let row = stamp as usize;
+        Stretch {
+            from: self.start(row),
+            upto: self.start(row.saturating_add(1)),
+        }
+    }
+
+    /// The first place of these with the sender's mark.
+    pub(crate) fn first_of(&self, near: Stretch, sender: Id) -> Option<usize> {
         let mark = mark_of(sender);
-        let behind = self.marks[near.from..near.upto]
+        let behind = self
+            .marks
+            .get(near.from..near.upto)?
             .iter()
             .position(|other| *other == mark)?;
         Some(near.from.saturating_add(behind))
     }
 
-    /// Where the envelopes of a row stand.
-    fn stretch(&self, row: usize) -> Stretch
-        ensures order { result.from ≤ result.upto }
-        ensures within { result.upto ≤ vec_len self.now.marks }
-    {
-        let from = self.start(row);
-        Stretch {
-            from,
-            upto: self.start(row.saturating_add(1)).max(from),
-        }
-    }
-
     /// Where a row begins, or the end if none did.
-    fn start(&self, row: usize) -> usize
-        ensures { result ≤ vec_len self.now.marks }
-    {
+    fn start(&self, row: usize) -> usize {
         let count = self.marks.len();
         match self.rows.get(row) {
             Some(start) => count.min(*start),

@@ -85,7 +85,7 @@ fn first_untaken(
         let sent = act.entry.sent.as_slice();
         if let Some(envelope) = first_sent(sent, taken, receiver) {
             return Ok(Some(Unread {
-                node: act.node,
+                node: act.node(),
                 place: act.place as u64,
                 envelope: envelope.copy(alloc)?,
             }));

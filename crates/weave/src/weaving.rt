@@ -17,6 +17,7 @@ ghost use Rattle.weave.specs.Stray.{IsDueTo};
 ghost use Rattle.weave.specs.Stops.{IsStopAt, StopsAt};
 
 use crate::acts::{Act, woven_order};
+use crate::ahead::{Ahead, TOGETHER};
 use crate::fault::WeaveFault;
 use crate::search::place_among;
 use crate::starts::Starts;
@@ -52,6 +53,7 @@ fn entries_of(alloc: Global, acts: &[Act<'_>]) -> Result<Entries, WeaveFault>
 {
     let mut weaving = Weaving::new(alloc, acts.len());
     for act in acts {
+        weaving.look_ahead(acts)?;
         weaving.add(alloc, act)?;
     }
     Ok(weaving.entries)
@@ -63,6 +65,8 @@ pub(crate) struct Weaving {
     pub(crate) entries: Entries,
     /// Where messages of a stamp and a sender may stand among all that these sent.
     starts: Starts,
+    /// Where what the next entries take in may stand.
+    ahead: Ahead,
     /// What the next entry sends and notes. Between two entries both are empty.
     pub(crate) messages: Vec<Envelope>,
     pub(crate) notes: Vec<Note>,
@@ -77,9 +81,28 @@ impl Weaving {
         Weaving {
             entries: Entries::new(alloc),
             starts: Starts::new(alloc, count),
+            ahead: Ahead::new(),
             messages: Vec::new(alloc),
             notes: Vec::new(alloc),
         }
+    }
+
+    /// Looks at the next entries of these, if all that were looked at last are woven, and takes room for what they send and note.
+    fn look_ahead(&mut self, acts: &[Act<'_>]) -> Result<(), OutOfMemory>
+        ensures entries { self.new.entries ≡ self.old.entries }
+        ensures emptied { IsEmptied self.old → IsEmptied self.new }
+    {
+        let number = self.entries.len();
+        if number % TOGETHER != 0 {
+            return Ok(());
+        }
+        let Some(next) = acts.get(number..) else {
+            return Ok(());
+        };
+        let load = self.ahead.look(next, self.entries.sent(), &self.starts);
+        self.messages.reserve(load.sent)?;
+        self.notes.reserve(load.noted)?;
+        Ok(())
     }
 
     /// The entry that one of a history becomes. What it took in is sought among what the entries before it sent, where the record
@@ -91,9 +114,10 @@ impl Weaving {
         ensures emptied { OnOk result (IsEmptied self.new) }
         ensures err { IfErr result (IsStopAt (sent_in self.old.entries) (placed act.now)) }
     {
-        let event = event_of(alloc, act, self.entries.sent(), &self.starts)?;
+        let guess = self.ahead.guess(self.entries.len());
+        let event = event_of(alloc, act, self.entries.sent(), &self.starts, guess)?;
         let sent = act.entry.sent.as_slice();
-        self.starts.add(act.stamp, act.node, sent.len())?;
+        self.starts.add(act.stamp, act.node(), sent.len())?;
         copy_envelopes(alloc, &mut self.messages, sent)?;
         copy_notes(alloc, &mut self.notes, act.entry.notes.as_slice())?;
         self.entries
@@ -107,19 +131,31 @@ fn event_of(
     act: &Act<'_>,
     sent: &[Envelope],
     starts: &Starts,
+    guess: Option<usize>,
 ) -> Result<Event, WeaveFault>
     requires { AreByStamp (map plain_envelope sent.now) }
-    ensures ok { IfOk result (IsEventOf (map plain_envelope sent.now) act.now.node (plain_entry act.now.entry.now).input) }
+    ensures ok { IfOk result (IsEventOf (map plain_envelope sent.now) (placed act.now).act.node (plain_entry act.now.entry.now).input) }
     ensures err { IfErr result (IsStopAt (map plain_envelope sent.now) (placed act.now)) }
 {
     match &act.entry.input {
         CellInput::Command { number, command } => Ok(Event::Command {
-            node: act.node,
+            node: act.node(),
             number: *number,
             command: command.copy(alloc)?,
         }),
-        CellInput::Comes(envelope) => delivery_of(alloc, act, sent, starts, envelope),
-        CellInput::Noise => Ok(Event::Noise { node: act.node }),
+        CellInput::Comes(envelope) => {
+            let guess = guess_of(starts, guess, envelope);
+            delivery_of(alloc, act, sent, guess, envelope)
+        }
+        CellInput::Noise => Ok(Event::Noise { node: act.node() }),
+    }
+}
+
+/// Where an envelope may stand, if it is not guessed yet: what is looked at ahead may be sent by an entry just before.
+fn guess_of(starts: &Starts, guess: Option<usize>, envelope: &Envelope) -> Option<usize> {
+    match guess {
+        Some(place) => Some(place),
+        None => starts.guess(envelope.stamp, envelope.sender),
     }
 }
 
@@ -128,20 +164,20 @@ fn delivery_of(
     alloc: Global,
     act: &Act<'_>,
     sent: &[Envelope],
-    starts: &Starts,
+    guess: Option<usize>,
     envelope: &Envelope,
 ) -> Result<Event, WeaveFault>
     requires sorted { AreByStamp (map plain_envelope sent.now) }
     requires comes { (plain_entry act.now.entry.now).input ≡ Comes (plain_envelope envelope.now) }
-    ensures ok { IfOk result (IsEventOf (map plain_envelope sent.now) act.now.node (Comes (plain_envelope envelope.now))) }
+    ensures ok { IfOk result (IsEventOf (map plain_envelope sent.now) (placed act.now).act.node (Comes (plain_envelope envelope.now))) }
     ensures err { IfErr result (IsStopAt (map plain_envelope sent.now) (placed act.now)) }
 {
-    match place_among(sent, starts, envelope) {
+    match place_among(sent, guess, envelope) {
         Some(place) => Ok(Event::Deliver {
             message: place as u64,
         }),
         None => Err(WeaveFault::Stray {
-            node: act.node,
+            node: act.node(),
             place: act.place as u64,
             envelope: envelope.copy(alloc)?,
         }),

@@ -10,7 +10,7 @@ use Rattle.weave.proofs.acts.add_history.Goals as goal
 pub loop-place-preserved : goal.loop-place-preserved
 loop-place-preserved c =
     let place = c.loop-place.place in
-    let x = c.me-node.result in
+    let x = c.args.cell.now.node in
     let one : CellEntry = c.index-history-place.result in
     let so_far : List plain.CellEntry = map plain_entry (take place c.history-history.result.now) in
     let others : List Placed = map placed c.args.acts.now.items in

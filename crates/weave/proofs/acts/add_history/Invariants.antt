@@ -6,6 +6,6 @@ use Rattle.weave.proofs.acts.add_history.Given as goal
 -- the entries so far are among them, and there is room for the others
 abbrev pub invariant-loop-place : goal.invariant-loop-place
 invariant-loop-place l = record {
-  acts : map placed l.acts.items ≡ map placed l.fn.acts.items ++ placed_from l.node 0 (map plain_entry (take l.place l.history));
+  acts : map placed l.acts.items ≡ map placed l.fn.acts.items ++ placed_from l.cell.node 0 (map plain_entry (take l.place l.history));
   room : vec_len l.acts + (length l.history - l.place) ≤ vec_capacity l.acts;
 }

@@ -42,7 +42,7 @@ returns-in-Some c =
       behind = map placed (drop (c.loop-act.act-index + 1) c.args.acts.now);
       split = split_at c.args.acts.now c.loop-act.act-index (c.loop-act.act-index + 1) c.act-item.result (omega arith) c.loop-act-test.true c.act-item.is;
       earlier = c.loop-act.invariant;
-      named = record { node = refl; at = refl };
+      named = record { node = sym c.node.ensures; at = refl };
       first = subst (λ (e : CodeEnvelope). IsFirstWanted taken x (placed c.act-item.result).act.entry.sent (plain_envelope e)) (sym c.in_ok-copy.ensures)
           (subst (λ (vs : List Envelope). IsFirstWanted taken x vs (plain_envelope c.in-Some.envelope.now)) c.as_slice-sent.ensures first);
     }

@@ -1,0 +1,115 @@
+//! A look at the next entries, and at where the messages that they take in may stand.
+//!
+//! The entries of many histories lie far apart, and so do the messages of a record. What is looked at for the first time is waited
+//! for. So the next entries are looked at together, in short loops, none of which needs what another of its turns looks at: then
+//! much is waited for at once. No promise rests on this, as none does on `Starts`.
+
+use crate::acts::Act;
+use crate::starts::{Starts, Stretch};
+use node_cell::CellInput;
+use ring_math::Id;
+use wire_msg::Envelope;
+
+/// How many entries are looked at together.
+pub(crate) const TOGETHER: usize = 32;
+
+/// The stamp and the sender of the message that an entry takes in, and where it may stand.
+#[derive(Clone, Copy)]
+struct Sight {
+    stamp: u64,
+    sender: Id,
+    near: Stretch,
+    guess: Option<usize>,
+}
+
+/// What so many entries take in.
+#[derive(Clone, Copy)]
+pub(crate) struct Ahead {
+    sights: [Sight; TOGETHER],
+}
+
+/// How much entries send and note.
+#[derive(Clone, Copy)]
+pub(crate) struct Load {
+    pub(crate) sent: usize,
+    pub(crate) noted: usize,
+}
+
+impl Sight {
+    /// Nothing is taken in: no envelope has the last stamp.
+    fn none() -> Sight {
+        Sight {
+            stamp: u64::MAX,
+            sender: Id(0),
+            near: Stretch { from: 0, upto: 0 },
+            guess: None,
+        }
+    }
+
+    /// What an entry takes in, when it is not known yet where it may stand.
+    fn of(input: &CellInput) -> Sight {
+        match input {
+            CellInput::Comes(envelope) => Sight {
+                stamp: envelope.stamp,
+                sender: envelope.sender,
+                near: Stretch { from: 0, upto: 0 },
+                guess: None,
+            },
+            CellInput::Command { .. } | CellInput::Noise => Sight::none(),
+        }
+    }
+
+    /// Whether an envelope of the stamp and the sender stands where it is guessed.
+    fn is_right(&self, sent: &[Envelope]) -> bool {
+        let Some(place) = self.guess else {
+            return false;
+        };
+        match sent.get(place) {
+            // Both are looked at, whatever the first says.
+            Some(envelope) => (envelope.stamp == self.stamp) & (envelope.sender == self.sender),
+            None => false,
+        }
+    }
+}
+
+impl Ahead {
+    /// Nothing was looked at yet.
+    pub(crate) fn new() -> Ahead {
+        Ahead {
+            sights: [Sight::none(); TOGETHER],
+        }
+    }
+
+    /// Looks at the first of these entries, and at where what they take in may stand among what was sent. Tells how much they send
+    /// and note.
+    pub(crate) fn look(&mut self, acts: &[Act<'_>], sent: &[Envelope], starts: &Starts) -> Load {
+        let load = self.look_at_entries(acts);
+        for sight in self.sights.iter_mut() {
+            sight.near = starts.near(sight.stamp);
+        }
+        for sight in self.sights.iter_mut() {
+            sight.guess = starts.first_of(sight.near, sight.sender);
+        }
+        for sight in self.sights.iter_mut() {
+            if !sight.is_right(sent) {
+                sight.guess = None;
+            }
+        }
+        load
+    }
+
+    fn look_at_entries(&mut self, acts: &[Act<'_>]) -> Load {
+        let mut load = Load { sent: 0, noted: 0 };
+        for (sight, act) in self.sights.iter_mut().zip(acts) {
+            *sight = Sight::of(&act.entry.input);
+            load.sent = load.sent.saturating_add(act.entry.sent.as_slice().len());
+            load.noted = load.noted.saturating_add(act.entry.notes.as_slice().len());
+        }
+        load
+    }
+
+    /// Where the message may stand that is taken in by the entry of this number, one of those looked at last.
+    pub(crate) fn guess(&self, number: usize) -> Option<usize> {
+        self.sights[number % TOGETHER].guess
+    }
+}
