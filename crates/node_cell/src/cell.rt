@@ -17,7 +17,7 @@ use crate::fault::CellFault;
 use crate::frames::Addressed;
 use crate::live::node_at_start;
 use crate::plan::{commit, plan_with_room};
-use crate::reading::read;
+use crate::sharing::read_to_keep;
 use node_core::Node;
 use ring_math::{Id, OutOfMemory};
 use std::alloc::Global;
@@ -73,7 +73,7 @@ impl NodeCell {
         ensures err { OnErr result (self.new ≡ self.old) }
         ensures due { IfErr result (IsDueToBytes self.old frame.now) }
     {
-        let input = read(alloc, self.me(), frame)?;
+        let input = read_to_keep(alloc, self.me(), frame, &self.history)?;
         self.take_in(alloc, input)
     }
 

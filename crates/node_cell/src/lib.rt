@@ -15,6 +15,7 @@ mod plan;
 mod posting;
 mod reading;
 mod serving;
+mod sharing;
 mod stamps;
 
 pub use cell::NodeCell;

@@ -2,12 +2,12 @@
 
 ghost use Rattle.std.specs.Prelude.{◌≡◌, None};
 
-use crate::{CellFault, CellInput, LiveNode, NodeCell};
-use ring_math::{Id, OutOfMemory};
+use crate::{CellEntry, CellFault, CellInput, LiveNode, NodeCell};
+use ring_math::{Bytes, Id, OutOfMemory};
 use std::alloc::Global;
 use std::test::Fail;
 use wire_codec::encode;
-use wire_msg::{Command, Envelope, Frame, Message};
+use wire_msg::{Command, Envelope, Frame, Message, Reply};
 
 const A: Id = Id(0x10 << 120);
 
@@ -157,6 +157,71 @@ fn a_node_goes_on_without_its_history(rt: HostRuntime) -> Result<(), Fail> {
     let mut live = LiveNode::new(rt.alloc(), A, false)?;
     let is_so = goes_on(&mut live, rt.alloc());
     drop(live);
+    assert!(rt; is_so?);
+    Ok(())
+}
+
+/// A file that was found, with a stamp.
+fn found_frame(alloc: Global, stamp: u64, bytes: &[u8]) -> Result<Frame, Fail> {
+    let bytes = Bytes::copy_of(alloc, bytes)?;
+    let envelope = Envelope {
+        sender: B,
+        receiver: A,
+        stamp,
+        message: Message::FetchReply {
+            number: 1,
+            reply: Reply::Found { node: B, bytes },
+        },
+    };
+    let frame = encode(alloc, &envelope);
+    drop(envelope);
+    Ok(frame?)
+}
+
+/// A file that was found comes to a cell.
+fn take_found(cell: &mut NodeCell, alloc: Global, stamp: u64, bytes: &[u8]) -> Result<(), Fail>
+    requires { cell.old.carried ≡ None }
+    ensures { cell.new.carried ≡ None }
+{
+    let frame = found_frame(alloc, stamp, bytes)?;
+    cell.handle(alloc, frame.as_slice())?;
+    Ok(())
+}
+
+/// The bytes of the file that was found, in an entry.
+fn found_in(entry: &CellEntry) -> &[u8] {
+    match &entry.input {
+        CellInput::Comes(envelope) => bytes_in(&envelope.message),
+        CellInput::Command { .. } | CellInput::Noise => b"",
+    }
+}
+
+fn bytes_in(message: &Message) -> &[u8] {
+    match message {
+        Message::FetchReply {
+            reply: Reply::Found { bytes, .. },
+            ..
+        } => bytes.as_slice(),
+        _ => b"",
+    }
+}
+
+/// The same file twice, and then another: whether all come as they are.
+fn keeps_found(cell: &mut NodeCell, alloc: Global) -> Result<bool, Fail>
+    requires { cell.old.carried ≡ None }
+{
+    take_found(cell, alloc, 1, b"one")?;
+    take_found(cell, alloc, 2, b"one")?;
+    take_found(cell, alloc, 3, b"two")?;
+    let mut found = cell.history().iter().map(|entry| found_in(entry));
+    Ok(found.next() == Some(b"one") && found.next() == Some(b"one") && found.next() == Some(b"two"))
+}
+
+#[test]
+fn files_come_as_they_are(rt: HostRuntime) -> Result<(), Fail> {
+    let mut cell = NodeCell::new(rt.alloc(), A, true)?;
+    let is_so = keeps_found(&mut cell, rt.alloc());
+    drop(cell);
     assert!(rt; is_so?);
     Ok(())
 }
