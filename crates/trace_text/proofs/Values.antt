@@ -1,5 +1,5 @@
 -- The values of digits, each computed and not looked up.
-use Rattle.std.proofs.Common.{◌≡◌, ℕ, ◌+◌, ◌-◌, ◌%◌, ◌<◌, Bool, true, false, cond, ◌&&◌, eqb, slice_index, refl, sym, arith, ◌∙◌, ap}
+use Rattle.std.proofs.Common.{◌≡◌, ℕ, ◌+◌, ◌-◌, ◌%◌, ◌<◌, Bool, true, cond, ◌&&◌, eqb, slice_index, refl}
 use Rattle.std.specs.Prelude.{nat_lt, bit_and}
 use Rattle.std.proofs.lemmas.Bool.{and_parts, eqb-true, ltb-true, lt-ltb}
 use Rattle.hex.specs.Hex.{lower_digits}

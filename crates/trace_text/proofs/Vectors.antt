@@ -6,7 +6,7 @@ use Rattle.std.specs.Simd.Lanes.{zip2, sel_l, mask_l, put_chunk, top}
 use Rattle.std.specs.Prelude.{nat_lt, take, drop}
 use Rattle.std.proofs.lemmas.Bool.{cases_lt, leb-true, leb-false, ltb-true, ltb-false}
 use Rattle.std.proofs.lemmas.List.{get_or-append-add, get_or_append_left, ext_get_or, length-map, length-take-le, take_at}
-use Rattle.std.proofs.lemmas.Simd.{get_or-replicate, get_or-sel_l, get_or-zip2, length-sel_l, length-zip2, mask_l-mod, put_chunk_is, tops_compared, zip2_splat_left}
+use Rattle.std.proofs.lemmas.Simd.{get_or-sel_l, get_or-zip2, length-sel_l, length-zip2, mask_l-mod, put_chunk_is, tops_compared, zip2_splat_left}
 use Rattle.hex.specs.Hex.{encode_lower, encode_with, lower_digits}
 use Rattle.hex.proofs.HexLemmas.{length-encode_with}
 use Rattle.trace_text.specs.Lanes.{HasLanes}

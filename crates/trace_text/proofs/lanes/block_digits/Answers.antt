@@ -1,4 +1,4 @@
-use Rattle.std.proofs.Common.{List, ℕ, ◌<◌, ◌≡◌, ◌/◌, ◌%◌, take, arith, ◌∙◌, ap, sym, w8}
+use Rattle.std.proofs.Common.{List, ℕ, ◌<◌, ◌≡◌, ◌/◌, ◌%◌, take, arith, ◌∙◌, ap, sym}
 use Rattle.std.specs.Prelude.{slice_index}
 use Rattle.hex.specs.Hex.{lower_digits}
 use Rattle.std.proofs.lemmas.List.{length-take-le, get_or-take}

@@ -1,4 +1,4 @@
-use Rattle.std.proofs.Common.{◌∙◌, refl}
+use Rattle.std.proofs.Common.{◌∙◌}
 use Rattle.std.specs.Prelude.{slice_index}
 use Rattle.trace_text.proofs.Values.{lane_digit}
 use Rattle.trace_text.proofs.lanes.digits_of.Goals as goal
