@@ -1,5 +1,6 @@
 -- Vectors of sixteen bytes, lane by lane.
-use Rattle.std.proofs.Common.{◌≡◌, ℕ, zero, suc, ◌+◌, ◌*◌, ◌/◌, ◌%◌, ◌^◌, ◌<◌, ◌≤◌, Bool, true, false, cond, List, [], ◌∷◌, length, map, replicate, get_or, slice_index, ◌++◌, ◌-◌, ◌⊎◌, inl, inr}
+use Rattle.std.proofs.Common.{◌≡◌, ℕ, zero, suc, ◌+◌, ◌*◌, ◌/◌, ◌%◌, ◌^◌, ◌<◌, ◌≤◌, ◌-◌, ◌⊎◌, inl, inr}
+use Rattle.std.proofs.Common.{Bool, true, false, cond, List, [], ◌∷◌, ◌++◌, length, map, replicate, get_or, slice_index}
 use Rattle.std.proofs.Common.{refl, sym, ap, subst, ◌∙◌, arith, leb, w8}
 use Rattle.std.specs.List.{range_with_len}
 use Rattle.std.specs.Simd.Lanes.{zip2, sel_l, mask_l, put_chunk, top}
@@ -78,7 +79,8 @@ mask_from_small [] small = refl
 mask_from_small (x ∷ xs) small =
     unset_by x (leb 16 x) (mask_l (map (leb 16) xs)) refl (small 0 (omega arith)) (mask_from_small xs (λ k lt. small (suc k) (omega arith)))
 
-pub mask_is : (xs : List ℕ) → length xs ≡ 16 → mask_l (map (top 7) (zip2 (λ a b. cond (leb a b) 255 0) (replicate 16 16) xs)) % 2 ^ 64 ≡ mask_l (map (leb 16) xs)
+pub mask_is : (xs : List ℕ) → length xs ≡ 16 →
+    mask_l (map (top 7) (zip2 (λ a b. cond (leb a b) 255 0) (replicate 16 16) xs)) % 2 ^ 64 ≡ mask_l (map (leb 16) xs)
 mask_is xs long =
     ap (λ (ms : List Bool). mask_l ms % 2 ^ 64) (tops_compared w8 leb (replicate 16 16) xs ∙ zip2_splat_left leb 16 16 xs long)
     ∙ mask_l-mod (map (leb 16) xs) 64 (omega (arith, length-map xs (leb 16), long))
@@ -108,7 +110,8 @@ stored_behind i xs ys room =
 -- ---- digits of bytes, interleaved
 
 encoded_at : (xs : List ℕ) (k : ℕ) → k < length xs →
-    (get_or (encode_lower xs) (2 * k) 0 ≡ slice_index lower_digits (get_or xs k 0 / 16)) × (get_or (encode_lower xs) (2 * k + 1) 0 ≡ slice_index lower_digits (get_or xs k 0 % 16))
+    (get_or (encode_lower xs) (2 * k) 0 ≡ slice_index lower_digits (get_or xs k 0 / 16)) ×
+    (get_or (encode_lower xs) (2 * k + 1) 0 ≡ slice_index lower_digits (get_or xs k 0 % 16))
 unfolding encode_with
 encoded_at [] k lt = absurd (omega arith)
 encoded_at (x ∷ xs) zero lt = (refl, refl)
