@@ -121,6 +121,15 @@ impl NodeCell {
         &self.history
     }
 
+    /// The history of a cell that is not needed any more.
+    pub fn into_history(self) -> Vec<CellEntry>
+        ensures value { plain_history result.items ≡ self.history }
+        ensures cell { IsCellHistory self.node self.is_founder self.history }
+        ensures numbers { NumbersRise self.history }
+    {
+        self.history
+    }
+
     /// The stamp of the last entry, and 0 before the first.
     pub fn stamp(&self) -> u64
         ensures { result ≡ stamp_of self.now }

@@ -28,7 +28,7 @@ use scenario_reader::Scenario;
 use std::alloc::Global;
 use std::sync::Wait;
 use std::thread::Threads;
-use weave::{WeaveFault, weave};
+use weave::{WeaveFault, into_woven};
 
 /// Runs a scenario: in each round of a stage, each node's cell is served by a thread of its own, which passes the turnstile before
 /// each frame. `NotForRun` comes exactly where the scenario has a line that a run can't have, and names the first, before anything
@@ -75,7 +75,7 @@ fn run_by_threads<R: Threads + Wait + Sync, T: Turnstile + Sync>(
     ensures { IfOk result (λ found. IfSome found (IsRunOf scenario.now)) }
 {
     match cells_served_by_threads(rt, alloc, scenario, turnstile) {
-        Ok(cells) => tested_run(alloc, scenario, &cells),
+        Ok(cells) => tested_run(alloc, scenario, cells),
         Err(CellFault::Spent { .. }) => Ok(None),
         Err(CellFault::OutOfMemory) => Err(OutOfMemory),
     }
@@ -90,7 +90,7 @@ pub fn run_by_hand(alloc: Global, scenario: &Scenario) -> Result<Record, RunFaul
 {
     refuse_unfit(scenario)?;
     let cells = cells_served_by_hand(alloc, scenario)?;
-    let steps = woven_run(alloc, scenario, &cells)?;
+    let steps = woven_run(alloc, scenario, cells)?;
     Ok(steps)
 }
 
@@ -109,23 +109,23 @@ pub fn cells_served_by_hand(alloc: Global, scenario: &Scenario) -> Result<Vec<No
 pub fn woven_run(
     alloc: Global,
     scenario: &Scenario,
-    cells: &[NodeCell],
+    cells: Vec<NodeCell>,
 ) -> Result<Record, OutOfMemory>
-    requires { HaveRun scenario.now cells.now }
+    requires { HaveRun scenario.now cells.items }
     ensures { IfOk result (IsRunOf scenario.now) }
 {
-    cells_law(cells);
+    cells_law(&cells);
     let _founder = scenario.founder();
     woven(alloc, cells)
 }
 
 /// The record that is woven from what cells did that took only what they sent: no envelope is stray.
-fn woven(alloc: Global, cells: &[NodeCell]) -> Result<Record, OutOfMemory>
-    requires apart { HaveOwnNodes cells.now }
-    requires sent { AllSent (histories cells.now) }
-    ensures { IfOk result (IsWoven (histories cells.now)) }
+fn woven(alloc: Global, cells: Vec<NodeCell>) -> Result<Record, OutOfMemory>
+    requires apart { HaveOwnNodes cells.items }
+    requires sent { AllSent (histories cells.items) }
+    ensures { IfOk result (IsWoven (histories cells.items)) }
 {
-    match weave(alloc, cells) {
+    match into_woven(alloc, cells) {
         Ok(steps) => Ok(steps),
         Err(WeaveFault::OutOfMemory) => Err(OutOfMemory),
         Err(WeaveFault::Stray { .. }) => unreachable!(),
@@ -137,14 +137,14 @@ fn woven(alloc: Global, cells: &[NodeCell]) -> Result<Record, OutOfMemory>
 pub fn tested_run(
     alloc: Global,
     scenario: &Scenario,
-    cells: &[NodeCell],
+    cells: Vec<NodeCell>,
 ) -> Result<Option<Record>, OutOfMemory>
-    requires { HaveKept scenario.now cells.now }
+    requires { HaveKept scenario.now cells.items }
     ensures some { IfOk result (λ found. IfSome found (IsRunOf scenario.now)) }
-    ensures none { IfOk result (λ found. IfNone found (FailTheTest (stages_of scenario.now) (histories cells.now))) }
+    ensures none { IfOk result (λ found. IfNone found (FailTheTest (stages_of scenario.now) (histories cells.items))) }
 {
     let all = stages(alloc, scenario)?;
-    if !noise_is_theirs(cells, &all) {
+    if !noise_is_theirs(&cells, &all) {
         return Ok(None);
     }
     counted_run(alloc, scenario, cells, most_copies(&all))
@@ -154,16 +154,16 @@ pub fn tested_run(
 fn counted_run(
     alloc: Global,
     scenario: &Scenario,
-    cells: &[NodeCell],
+    cells: Vec<NodeCell>,
     copies: u8,
 ) -> Result<Option<Record>, OutOfMemory>
-    requires kept { HaveKept scenario.now cells.now }
-    requires noise { All (λ h. HasItsNoise (stages_of scenario.now) h.node (inputs_in h)) (histories cells.now) }
+    requires kept { HaveKept scenario.now cells.items }
+    requires noise { All (λ h. HasItsNoise (stages_of scenario.now) h.node (inputs_in h)) (histories cells.items) }
     requires copies { copies ≡ most_copies (stages_of scenario.now) }
     ensures some { IfOk result (λ found. IfSome found (IsRunOf scenario.now)) }
-    ensures none { IfOk result (λ found. IfNone found (FailTheTest (stages_of scenario.now) (histories cells.now))) }
+    ensures none { IfOk result (λ found. IfNone found (FailTheTest (stages_of scenario.now) (histories cells.items))) }
 {
-    cells_law(cells);
+    cells_law(&cells);
     let _founder = scenario.founder();
     let steps = woven(alloc, cells)?;
     if !came_at_most(alloc, &steps.entries, copies)? {

@@ -1,9 +1,9 @@
 -- Entries in the woven order follow the sendings of what they take in, and find it among what the entries before them sent.
-use Rattle.std.proofs.Common.{◌≡◌, ◌<◌, ◌≤◌, ◌+◌, ◌∙◌, inl, inr, ℕ, zero, suc, List, [], ◌∷◌, ◌++◌}
-use Rattle.std.proofs.Common.{map, take, drop, length, get_or, All, Contains, sym, subst, ap, arith}
+use Rattle.std.proofs.Common.{◌≡◌, ◌<◌, ◌≤◌, ◌+◌, ◌∙◌, inl, inr, ℕ, List, [], ◌∷◌, ◌++◌}
+use Rattle.std.proofs.Common.{map, take, drop, length, get_or, Contains, sym, subst, ap, arith}
 use Rattle.std.proofs.lemmas.List.{map-append}
 use Rattle.std.proofs.lemmas.List.Concat.{flat_map-append, flat_map-cons}
-use Rattle.std.proofs.lemmas.List.Elements.{All-head, All-tail, Contains-append_cases}
+use Rattle.std.proofs.lemmas.List.Elements.{Contains-append_cases}
 use Rattle.std.proofs.lemmas.Option.{slice_get_within}
 use Rattle.std.specs.List.{AllZip}
 use Rattle.ring_math.specs.Names.{Id, Stamp}
@@ -11,18 +11,17 @@ use Rattle.wire_msg.specs.Words.{Envelope}
 use Rattle.overlay_rules.specs.declared.entry.Event.{Event}
 use Rattle.overlay_rules.specs.declared.entry.Entry.{Entry}
 use Rattle.overlay_rules.specs.Record.{sent_in}
-use Rattle.overlay_rules.proofs.Each.{Each, Each-append, Each-contains, Each-weaker}
+use Rattle.overlay_rules.proofs.Each.{Each, Each-append, Each-contains, Each-from_all, Each-weaker}
 use Rattle.overlay_rules.proofs.OneMore.{slice_get-more}
 use Rattle.weave_laws.specs.Cells.{CellInput, Command, Comes, Noise, History, input_stamp}
 use Rattle.weave_laws.specs.Woven.{Act, ComesBefore, AreInOrder, IsEntryOf, IsEventOf, IsNumberOf, IsWovenOrder}
 use Rattle.weave_laws.proofs.Parts.{StandsIn, stand_in}
 use Rattle.weave_laws.proofs.Sendings.{IsStamped, cell_stamped}
-use Rattle.node_cell.specs.Cell.{Cell}
 use Rattle.weave.specs.ByStamp.{AreByStamp}
-use Rattle.weave.specs.Cells.{IsLawful, histories}
+use Rattle.weave.specs.Cells.{AreKept, IsKept}
 use Rattle.weave.specs.Follow.{FollowSendings}
 use Rattle.weave.specs.declared.acts.Act.{Act as CodeAct}
-use Rattle.weave.specs.Placed.{Placed, acts_in, placed, sent_by}
+use Rattle.weave.specs.Placed.{Placed, act_at, acts_in, placed, sent_by}
 use Rattle.weave.specs.Stops.{IsStopAt}
 use Rattle.weave.specs.declared.fault.WeaveFault.{WeaveFault}
 use Rattle.weave.specs.declared.fault.WeaveFault.TheVariants as fault
@@ -33,17 +32,14 @@ use Rattle.weave.proofs.Woven.{sent_is}
 
 -- ---- an entry takes in what has a lower stamp than its own
 
-own_stamped : (cells : List Cell) → All IsLawful cells → (h : History) → Contains (histories cells) h → Each IsStamped h.entries
-own_stamped [] l h (k, lt, is) = absurd (omega arith)
-own_stamped (c ∷ cells) l h (zero, lt, is) =
-    subst (λ (g : History). Each IsStamped g.entries) is (cell_stamped c.node c.is_founder c.history (All-head IsLawful c cells l).history)
-own_stamped (c ∷ cells) l h (suc k, lt, is) = own_stamped cells (All-tail IsLawful c cells l) h (k, omega arith, is)
+own_stamped : (hs : List History) → AreKept hs → (h : History) → Contains hs h → Each IsStamped h.entries
+own_stamped hs l h c = let kept = Each-contains IsKept hs h (Each-from_all IsKept hs l) c in cell_stamped h.node kept.is_founder h.entries kept.history
 
-all_stamped : (cells : List Cell) (acts : List Act) → All IsLawful cells → IsWovenOrder (histories cells) acts → Each (λ (a : Act). IsStamped a.entry) acts
-all_stamped cells acts l o =
-    Each-weaker (λ (a : Act). StandsIn (histories cells) a.node a.entry) (λ (a : Act). IsStamped a.entry) acts
-    (λ a s. Each-contains IsStamped s.history.entries a.entry (own_stamped cells l s.history s.among) s.stands)
-    (stand_in (histories cells) acts o)
+all_stamped : (hs : List History) (acts : List Act) → AreKept hs → IsWovenOrder hs acts → Each (λ (a : Act). IsStamped a.entry) acts
+all_stamped hs acts l o =
+    Each-weaker (λ (a : Act). StandsIn hs a.node a.entry) (λ (a : Act). IsStamped a.entry) acts
+    (λ a s. Each-contains IsStamped s.history.entries a.entry (own_stamped hs l s.history s.among) s.stands)
+    (stand_in hs acts o)
 
 -- ---- and what it and those behind it sent has no lower stamp than its own
 
@@ -90,10 +86,10 @@ acts_split ps before p rest is = ap acts_in is ∙ map-append (λ (q : Placed). 
 each_at : (P : Act → Type 0) (before : List Act) (a : Act) (rest : List Act) → Each P (before ++ a ∷ rest) → P a
 each_at P before a rest h = (each_behind P before (a ∷ rest) h).0
 
-pub follow_sendings : (cells : List Cell) (ps : List Placed) → All IsLawful cells → IsWovenOrder (histories cells) (acts_in ps) → FollowSendings ps
-follow_sendings cells ps l o =
-    let own = all_send_own cells (acts_in ps) l o in
-    let stamped = all_stamped cells (acts_in ps) l o in
+pub follow_sendings : (hs : List History) (ps : List Placed) → AreKept hs → IsWovenOrder hs (acts_in ps) → FollowSendings ps
+follow_sendings hs ps l o =
+    let own = all_send_own hs (acts_in ps) l o in
+    let stamped = all_stamped hs (acts_in ps) l o in
     record {
       by_stamp = sent-by_stamp (acts_in ps) o.in_order own;
       behind = λ before p rest v is takes c.
@@ -137,22 +133,22 @@ stop-more vs ws p fault.OutOfMemory found h = tt
 
 -- ---- an entry that comes next, behind those that became entries of a record
 
-module _ (xs : List CodeAct) (i : ℕ) (x : CodeAct) (es : List Entry) (lt : i < length xs) (is : x ≡ get_or xs i x)
-    (z : AllZip (IsEntryOf (sent_by (acts_in (map placed xs)))) (acts_in (map placed (take i xs))) es) where
+module _ (hs : List History) (xs : List CodeAct) (i : ℕ) (x : CodeAct) (es : List Entry) (lt : i < length xs) (is : x ≡ get_or xs i x)
+    (z : AllZip (IsEntryOf (sent_by (acts_in (map (placed hs) xs)))) (acts_in (map (placed hs) (take i xs))) es) where
   abbrev front : List Placed
-  front = map placed (take i xs)
+  front = map (placed hs) (take i xs)
 
   abbrev behind : List Placed
-  behind = map placed (drop (i + 1) xs)
+  behind = map (placed hs) (drop (i + 1) xs)
 
   abbrev whole : List Envelope
-  whole = sent_by (acts_in (map placed xs))
+  whole = sent_by (acts_in (map (placed hs) xs))
 
   abbrev rest : List Envelope
-  rest = sent_by (acts_in (placed x ∷ behind))
+  rest = sent_by (acts_in (placed hs x ∷ behind))
 
-  places : map placed xs ≡ front ++ placed x ∷ behind
-  places = split_at xs i (i + 1) x (omega arith) lt is
+  places : map (placed hs) xs ≡ front ++ placed hs x ∷ behind
+  places = split_at hs xs i (i + 1) x (omega arith) lt is
 
   so_far : sent_in es ≡ sent_by (acts_in front)
   so_far = sent_is whole (acts_in front) es z
@@ -160,19 +156,19 @@ module _ (xs : List CodeAct) (i : ℕ) (x : CodeAct) (es : List Entry) (lt : i <
   sent_split : whole ≡ sent_in es ++ rest
   sent_split =
       ap (λ ps. sent_by (acts_in ps)) places
-      ∙ ap sent_by (map-append (λ (p : Placed). p.act) front (placed x ∷ behind))
-      ∙ flat_map-append (λ (a : Act). a.entry.sent) (acts_in front) (acts_in (placed x ∷ behind))
+      ∙ ap sent_by (map-append (λ (p : Placed). p.act) front (placed hs x ∷ behind))
+      ∙ flat_map-append (λ (a : Act). a.entry.sent) (acts_in front) (acts_in (placed hs x ∷ behind))
       ∙ ap (λ ws. ws ++ rest) (sym so_far)
 
-  pub next-by_stamp : FollowSendings (map placed xs) → AreByStamp (sent_in es)
+  pub next-by_stamp : FollowSendings (map (placed hs) xs) → AreByStamp (sent_in es)
   next-by_stamp f = first-by_stamp (sent_in es) rest (subst AreByStamp sent_split f.by_stamp)
 
   -- what is found among what they sent is found so among all
-  pub next-entry : (e : Entry) → IsEntryOf (sent_in es) (placed x).act e → IsEntryOf whole (placed x).act e
-  next-entry e h = subst (λ ws. IsEntryOf ws (placed x).act e) (sym sent_split) (entry-more (sent_in es) rest (placed x).act e h)
+  pub next-entry : (e : Entry) → IsEntryOf (sent_in es) (act_at hs x) e → IsEntryOf whole (act_at hs x) e
+  next-entry e h = subst (λ ws. IsEntryOf ws (act_at hs x) e) (sym sent_split) (entry-more (sent_in es) rest (act_at hs x) e h)
 
   -- and what is not is nowhere
-  pub next-stop : FollowSendings (map placed xs) → (f : WeaveFault) → IsStopAt (sent_in es) (placed x) f → IsStopAt whole (placed x) f
+  pub next-stop : FollowSendings (map (placed hs) xs) → (f : WeaveFault) → IsStopAt (sent_in es) (placed hs x) f → IsStopAt whole (placed hs x) f
   next-stop follow f h =
-      stop-more (sent_in es) whole (placed x) f
-      (λ v takes c. subst (λ ws. Contains ws v) (sym so_far) (follow.behind front (placed x) behind v places takes c)) h
+      stop-more (sent_in es) whole (placed hs x) f
+      (λ v takes c. subst (λ ws. Contains ws v) (sym so_far) (follow.behind front (placed hs x) behind v places takes c)) h

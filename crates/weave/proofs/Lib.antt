@@ -1,5 +1,7 @@
 pub mod Placing
+pub mod Permuting
 pub mod Order
+pub mod Ordered
 pub mod Sendings
 pub mod Searching
 pub mod Stopping
@@ -10,6 +12,7 @@ pub mod Strays
 pub mod Unreads
 pub mod Missing
 pub mod Woven
+pub mod Strands
 pub mod Passing
 pub mod Passages
 pub mod Relaying

@@ -1,9 +1,8 @@
 -- What entries in the woven order sent is in the order of stamps and senders.
 use Rattle.std.proofs.Common.{◌≡◌, ◌<◌, ◌≤◌, ◌⊎◌, inl, inr, ℕ, zero, suc, Some, false}
-use Rattle.std.proofs.Common.{List, [], ◌∷◌, ◌++◌, map, slice_get, All, Contains, refl, sym, subst, arith}
+use Rattle.std.proofs.Common.{List, [], ◌∷◌, ◌++◌, map, slice_get, Contains, refl, sym, subst, arith}
 use Rattle.std.proofs.lemmas.Bool.Decides.{nat_tests}
 use Rattle.std.proofs.lemmas.List.Concat.{flat_map-cons}
-use Rattle.std.proofs.lemmas.List.Elements.{All-head, All-tail}
 use Rattle.ring_math.specs.Names.{Id, Stamp}
 use Rattle.wire_msg.specs.Words.{Envelope, Sent}
 use Rattle.overlay_rules.specs.State.{State}
@@ -13,9 +12,8 @@ use Rattle.overlay_rules.proofs.Each.{Each, Each-append, Each-weaker, Each-conta
 use Rattle.weave_laws.specs.Cells.{CellEntry, History, input_of, stepped, AreSteps}
 use Rattle.weave_laws.specs.Woven.{Act, ComesBefore, AreInOrder, IsWovenOrder}
 use Rattle.weave_laws.proofs.Parts.{StandsIn, stand_in}
-use Rattle.node_cell.specs.Cell.{Cell}
 use Rattle.weave.specs.ByStamp.{AreByStamp, is_earlier}
-use Rattle.weave.specs.Cells.{IsLawful, histories}
+use Rattle.weave.specs.Cells.{AreKept, IsKept}
 use Rattle.weave.specs.Placed.{sent_by}
 
 -- ---- an entry's envelopes have its stamp and its node
@@ -96,21 +94,16 @@ sent_rise (a ∷ acts) o s =
 pub sent-by_stamp : (acts : List Act) → AreInOrder acts → Each SendsOwn acts → AreByStamp (sent_by acts)
 sent-by_stamp acts o s = rising-by_stamp (sent_by acts) (sent_rise acts o s)
 
--- ---- of the histories of lawful cells
+-- ---- of the histories that cells keep
 
-own_histories : (cells : List Cell) → All IsLawful cells → (h : History) → Contains (histories cells) h →
-    Each (λ (e : CellEntry). Each (IsFrom h.node e.stamp) e.sent) h.entries
-own_histories [] l h (k, lt, is) = absurd (omega arith)
-own_histories (c ∷ cells) l h (zero, lt, is) =
-    subst (λ (g : History). Each (λ (e : CellEntry). Each (IsFrom g.node e.stamp) e.sent) g.entries) is
-    (sends_own c.node _ c.history (All-head IsLawful c cells l).history.steps)
-own_histories (c ∷ cells) l h (suc k, lt, is) = own_histories cells (All-tail IsLawful c cells l) h (k, omega arith, is)
+own_history : (hs : List History) → AreKept hs → (h : History) → Contains hs h → Each (λ (e : CellEntry). Each (IsFrom h.node e.stamp) e.sent) h.entries
+own_history hs l h c = sends_own h.node _ h.entries (Each-contains IsKept hs h (Each-from_all IsKept hs l) c).history.steps
 
-pub all_send_own : (cells : List Cell) (acts : List Act) → All IsLawful cells → IsWovenOrder (histories cells) acts → Each SendsOwn acts
-all_send_own cells acts l o =
-    Each-weaker (λ (a : Act). StandsIn (histories cells) a.node a.entry) SendsOwn acts
+pub all_send_own : (hs : List History) (acts : List Act) → AreKept hs → IsWovenOrder hs acts → Each SendsOwn acts
+all_send_own hs acts l o =
+    Each-weaker (λ (a : Act). StandsIn hs a.node a.entry) SendsOwn acts
     (λ a s.
     let own = Each-contains (λ (e : CellEntry). Each (IsFrom s.history.node e.stamp) e.sent) s.history.entries a.entry
-    (own_histories cells l s.history s.among) s.stands in
+    (own_history hs l s.history s.among) s.stands in
     subst (λ x. Each (IsFrom x a.entry.stamp) a.entry.sent) s.node own)
-    (stand_in (histories cells) acts o)
+    (stand_in hs acts o)

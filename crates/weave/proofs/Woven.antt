@@ -6,7 +6,11 @@ use Rattle.std.specs.List.{AllZip}
 use Rattle.ring_math.specs.Names.{Id}
 use Rattle.wire_msg.specs.Words.{Envelope}
 use Rattle.overlay_rules.specs.declared.entry.Entry.{Entry}
-use Rattle.overlay_rules.specs.Record.{Setting, sent_in}
+use Rattle.overlay_rules.specs.declared.entry.Record.{Record}
+use Rattle.overlay_rules.specs.Record.{Legal, Setting, sent_in}
+use Rattle.weave_laws.specs.AtNode.{IsPartOf}
+use Rattle.weave_laws.proofs.AtNodes.{histories_are_parts}
+use Rattle.weave_laws.proofs.Lawful.{woven_is_legal}
 use Rattle.weave_laws.specs.Cells.{History, IsCellHistory}
 use Rattle.weave_laws.specs.Histories.{AreHistories, IsHistoryIn}
 use Rattle.weave_laws.specs.Woven.{Act, IsEntryOf, IsWoven, IsWovenOrder}
@@ -36,6 +40,16 @@ are_histories cells founder r lawful =
     record { each = each_history (setting_of cells founder) cells (λ x k. k) r.alone lawful; apart = r.numbers }
 
 -- ---- the record
+
+pub legal_if_woven : (cells : List Cell) (founder : Id) → AreOneRing cells founder → All IsLawful cells → (r : Record) → IsWoven (histories cells) r →
+    Legal (setting_of cells founder) r.entries
+legal_if_woven cells founder ring lawful r w =
+    woven_is_legal (setting_of cells founder) (histories cells) r (are_histories cells founder ring lawful) w
+
+pub parts_if_woven : (cells : List Cell) (founder : Id) → AreOneRing cells founder → All IsLawful cells → (r : Record) → IsWoven (histories cells) r →
+    All (IsPartOf r.entries) (histories cells)
+parts_if_woven cells founder ring lawful r w =
+    histories_are_parts (setting_of cells founder) (histories cells) r (are_histories cells founder ring lawful) w
 
 -- what a record's entries sent is what they become of sent
 pub sent_is : (sent : List Envelope) (acts : List Act) (es : List Entry) → AllZip (IsEntryOf sent) acts es → sent_in es ≡ sent_by acts

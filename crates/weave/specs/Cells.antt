@@ -1,8 +1,8 @@
 -- Cells that are woven, as histories from a setting.
-use Rattle.std.specs.Prelude.{◌≡◌, ◌==◌, true, None, List, All, Contains}
+use Rattle.std.specs.Prelude.{◌≡◌, ◌==◌, true, None, Bool, List, All, Contains}
 use Rattle.ring_math.specs.Names.{Id}
 use Rattle.overlay_rules.specs.Record.{Setting, all_differ}
-use Rattle.weave_laws.specs.Cells.{IsCellHistory, nodes_of}
+use Rattle.weave_laws.specs.Cells.{History, IsCellHistory, nodes_of}
 use Rattle.weave_laws.specs.Numbers.{NumbersRise, ShareNoNumber}
 use Rattle.node_cell.specs.Cell.{Cell}
 pub use Rattle.node_cell.specs.Histories.{kept_history, histories}
@@ -32,3 +32,11 @@ HasNoPasses c = c.carried ≡ None
 pub record IsLawful (c : Cell) : Type 0 where
   pub history : IsCellHistory c.node c.is_founder c.history
   pub numbers : NumbersRise c.history
+
+-- it is what some cell keeps
+pub record IsKept (h : History) : Type 0 where
+  pub is_founder : Bool
+  pub history : IsCellHistory h.node is_founder h.entries
+
+abbrev pub AreKept : List History → Type 0
+AreKept hs = All IsKept hs

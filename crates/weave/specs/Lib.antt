@@ -1,5 +1,6 @@
 pub mod Cells
 pub mod Placed
+pub mod Strands
 pub mod Follow
 pub mod Growing
 pub mod ByStamp

@@ -1,71 +1,99 @@
-//! The entries of all cells, in the woven order.
+//! The entries of histories, in the woven order.
 
-ghost use Rattle.std.specs.Prelude.{◌≡◌, ◌++◌, IfOk, OnOk, All, map};
+ghost use Rattle.std.specs.Prelude.{◌≡◌, ◌++◌, true, IfOk, OnOk, All, map};
+ghost use Rattle.overlay_rules.specs.Record.{all_differ};
+ghost use Rattle.weave_laws.specs.Cells.{nodes_of};
 ghost use Rattle.weave_laws.specs.Woven.{IsWovenOrder};
-ghost use Rattle.weave.specs.Cells.{HaveOwnNodes, IsLawful, histories};
-ghost use Rattle.weave.specs.Placed.{AreEntriesOf, acts_in, all_placed, placed, placed_in};
+ghost use Rattle.node_cell.specs.Entries.{plain_entry, plain_history};
+ghost use Rattle.weave.specs.Cells.{AreKept};
+ghost use Rattle.weave.specs.Placed.{AreEntriesOf, IsWithin, act_at, acts_from, acts_in, all_placed, placed};
 
-use node_cell::{CellEntry, NodeCell};
+use crate::strand::Strand;
+use node_cell::CellEntry;
 use ring_math::{Id, OutOfMemory};
 use std::alloc::Global;
 
-/// An entry of a cell's history. Its stamp stands beside it, since entries are sorted by it, and the cell in place of its node,
-/// since a sort moves each of them several times.
+/// Where an entry stands: in the history of this number, at this place. Its stamp stands beside it, by which entries are sorted.
+/// A sort moves each of them several times, so they are small.
 #[derive(Clone, Copy)]
-pub(crate) struct Act<'a> {
+pub(crate) struct Act {
     pub(crate) stamp: u64,
-    pub(crate) place: usize,
-    pub(crate) cell: &'a NodeCell,
-    pub(crate) entry: &'a CellEntry,
+    pub(crate) history: u32,
+    pub(crate) place: u32,
 }
 
-impl Act<'_> {
+impl Act {
     /// The node to which it came.
-    pub(crate) fn node(&self) -> Id
-        ensures { result ≡ (placed self.now).act.node }
+    pub(crate) fn node<S: Strand>(&self, strands: &[S]) -> Id
+        requires { IsWithin (map S.history strands.now) self.now }
+        ensures { result ≡ (act_at (map S.history strands.now) self.now).node }
     {
-        self.cell.me()
+        strands[self.history as usize].node()
+    }
+
+    /// The entry itself.
+    pub(crate) fn entry<'a, S: Strand>(&self, strands: &'a [S]) -> &'a CellEntry
+        requires { IsWithin (map S.history strands.now) self.now }
+        ensures { plain_entry result.now ≡ (act_at (map S.history strands.now) self.now).entry }
+    {
+        let entries = strands[self.history as usize].entries();
+        &entries[self.place as usize]
     }
 }
 
-/// All entries of the cells, in the woven order.
-pub(crate) fn woven_order(alloc: Global, cells: &[NodeCell]) -> Result<Vec<Act<'_>>, OutOfMemory>
-    requires { HaveOwnNodes cells.now }
-    ensures order { IfOk result (λ acts. IsWovenOrder (histories cells.now) (acts_in (map placed acts.items))) }
-    ensures entries { IfOk result (λ acts. AreEntriesOf (histories cells.now) (map placed acts.items)) }
-    ensures lawful { OnOk result (All IsLawful cells.now) }
+/// All entries of the histories, in the woven order. The histories are put in the order of their nodes.
+pub(crate) fn woven_order<S: Strand>(
+    alloc: Global,
+    strands: &mut [S],
+) -> Result<Vec<Act>, OutOfMemory>
+    requires differ { all_differ (nodes_of (map S.history strands.old)) ≡ true }
+    requires kept { AreKept (map S.history strands.old) }
+    ensures order { IfOk result (λ acts. IsWovenOrder (map S.history strands.old) (acts_in (map (placed (map S.history strands.new)) acts.items))) }
+    ensures entries { IfOk result (λ acts. AreEntriesOf (map S.history strands.old) (map (placed (map S.history strands.new)) acts.items)) }
+    ensures within { IfOk result (λ acts. All (IsWithin (map S.history strands.new)) acts.items) }
 {
-    let mut acts = all_acts(alloc, cells)?;
-    // The stable sort: it finds the histories, each of which is in order, and merges them.
-    acts.sort_by_key(|act| (act.stamp, act.node().0))?;
+    strands.sort_by_key(alloc, |strand| strand.node().0)?;
+    let mut acts = all_acts(alloc, strands)?;
+    // Each history is in order, and they stand by node, which a stable sort keeps where stamps are equal: it finds the histories
+    // and merges them.
+    acts.sort_by_key(|act| act.stamp)?;
     Ok(acts)
 }
 
-/// All entries of the cells, one history behind the other.
-fn all_acts(alloc: Global, cells: &[NodeCell]) -> Result<Vec<Act<'_>>, OutOfMemory>
-    ensures acts { IfOk result (λ acts. map placed acts.items ≡ all_placed cells.now) }
-    ensures lawful { OnOk result (All IsLawful cells.now) }
+/// All entries, one history behind the other.
+fn all_acts<S: Strand>(alloc: Global, strands: &[S]) -> Result<Vec<Act>, OutOfMemory>
+    ensures acts { IfOk result (λ acts. map (placed (map S.history strands.now)) acts.items ≡ all_placed (map S.history strands.now)) }
+    ensures within { IfOk result (λ acts. All (IsWithin (map S.history strands.now)) acts.items) }
 {
     let mut acts = Vec::new(alloc);
-    for cell in cells {
-        add_history(&mut acts, cell)?;
+    for history in 0..small(strands.len())? {
+        add_history(&mut acts, history, strands[history as usize].entries())?;
     }
     Ok(acts)
 }
 
-fn add_history<'a>(acts: &mut Vec<Act<'a>>, cell: &'a NodeCell) -> Result<(), OutOfMemory>
-    ensures acts { OnOk result (map placed acts.new.items ≡ map placed acts.old.items ++ placed_in cell.now) }
-    ensures lawful { IsLawful cell.now }
+/// The entries of the history of this number.
+fn add_history(acts: &mut Vec<Act>, history: u32, entries: &[CellEntry]) -> Result<(), OutOfMemory>
+    ensures { OnOk result (acts.new.items ≡ acts.old.items ++ acts_from history 0 (plain_history entries.now)) }
 {
-    let history = cell.history();
-    acts.reserve(history.len())?;
-    for (place, entry) in history.iter().enumerate() {
+    let count = small(entries.len())?;
+    acts.reserve(entries.len())?;
+    for place in 0..count {
         acts.push_reserved(Act {
-            stamp: entry.stamp,
+            stamp: entries[place as usize].stamp,
+            history,
             place,
-            cell,
-            entry,
         });
     }
     Ok(())
+}
+
+/// A number in half its room. What has more than that is more than memory holds.
+fn small(number: usize) -> Result<u32, OutOfMemory>
+    ensures { IfOk result (λ same. same ≡ number) }
+{
+    match u32::try_from(number) {
+        Ok(same) => Ok(same),
+        Err(_) => Err(OutOfMemory),
+    }
 }

@@ -6,7 +6,8 @@
 
 use crate::acts::Act;
 use crate::starts::{Starts, Stretch};
-use node_cell::CellInput;
+use crate::strand::Strand;
+use node_cell::{CellEntry, CellInput};
 use ring_math::Id;
 use wire_msg::Envelope;
 
@@ -22,17 +23,17 @@ struct Sight {
     guess: Option<usize>,
 }
 
-/// What so many entries take in.
-#[derive(Clone, Copy)]
-pub(crate) struct Ahead {
-    sights: [Sight; TOGETHER],
-}
-
 /// How much entries send and note.
 #[derive(Clone, Copy)]
 pub(crate) struct Load {
     pub(crate) sent: usize,
     pub(crate) noted: usize,
+}
+
+/// What so many entries take in.
+#[derive(Clone, Copy)]
+pub(crate) struct Ahead {
+    sights: [Sight; TOGETHER],
 }
 
 impl Sight {
@@ -82,8 +83,14 @@ impl Ahead {
 
     /// Looks at the first of these entries, and at where what they take in may stand among what was sent. Tells how much they send
     /// and note.
-    pub(crate) fn look(&mut self, acts: &[Act<'_>], sent: &[Envelope], starts: &Starts) -> Load {
-        let load = self.look_at_entries(acts);
+    pub(crate) fn look<S: Strand>(
+        &mut self,
+        acts: &[Act],
+        strands: &[S],
+        sent: &[Envelope],
+        starts: &Starts,
+    ) -> Load {
+        let load = self.look_at_entries(acts, strands);
         for sight in self.sights.iter_mut() {
             sight.near = starts.near(sight.stamp);
         }
@@ -98,12 +105,15 @@ impl Ahead {
         load
     }
 
-    fn look_at_entries(&mut self, acts: &[Act<'_>]) -> Load {
+    fn look_at_entries<S: Strand>(&mut self, acts: &[Act], strands: &[S]) -> Load {
         let mut load = Load { sent: 0, noted: 0 };
         for (sight, act) in self.sights.iter_mut().zip(acts) {
-            *sight = Sight::of(&act.entry.input);
-            load.sent = load.sent.saturating_add(act.entry.sent.as_slice().len());
-            load.noted = load.noted.saturating_add(act.entry.notes.as_slice().len());
+            *sight = Sight::none();
+            if let Some(entry) = entry_of(act, strands) {
+                *sight = Sight::of(&entry.input);
+                load.sent = load.sent.saturating_add(entry.sent.as_slice().len());
+                load.noted = load.noted.saturating_add(entry.notes.as_slice().len());
+            }
         }
         load
     }
@@ -112,4 +122,10 @@ impl Ahead {
     pub(crate) fn guess(&self, number: usize) -> Option<usize> {
         self.sights[number % TOGETHER].guess
     }
+}
+
+/// The entry that stands there, if there is one.
+fn entry_of<'a, S: Strand>(act: &Act, strands: &'a [S]) -> Option<&'a CellEntry> {
+    let strand = strands.get(act.history as usize)?;
+    strand.entries().get(act.place as usize)
 }

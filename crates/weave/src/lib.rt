@@ -12,6 +12,7 @@ mod reading;
 mod relay;
 mod search;
 mod starts;
+mod strand;
 mod through;
 mod untaken;
 mod waiting;
@@ -22,7 +23,7 @@ pub use reading::all_read;
 pub use through::through_cells;
 pub use untaken::unread;
 pub use waiting::Unread;
-pub use weaving::weave;
+pub use weaving::{into_woven, weave};
 
 #[cfg(test)]
 mod tests;

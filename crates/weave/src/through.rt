@@ -10,7 +10,7 @@ ghost use Rattle.weave.specs.Through.{histories_through, through};
 
 use crate::fault::WeaveFault;
 use crate::relay::Relay;
-use crate::weaving::weave;
+use crate::weaving::into_woven;
 use overlay_rules::{EventRef, Record};
 use ring_math::{Id, OutOfMemory};
 use std::alloc::Global;
@@ -32,7 +32,7 @@ pub fn through_cells(
     ensures alike { IfOk result (λ woven. AreAlike nodes.now steps.now.entries woven.entries) }
 {
     let relay = relayed(alloc, nodes, founder, steps)?;
-    match weave(alloc, &relay.cells) {
+    match into_woven(alloc, relay.cells) {
         Ok(woven) => Ok(woven),
         Err(WeaveFault::OutOfMemory) => Err(OutOfMemory),
         Err(WeaveFault::Stray { .. }) => unreachable!(),

@@ -1,18 +1,17 @@
 //! The woven record of cells.
 
-ghost use Rattle.std.specs.Prelude.{◌≡◌, ◌++◌, [], IfOk, IfErr, OnOk, All, map};
+ghost use Rattle.std.specs.Prelude.{◌≡◌, [], true, IfOk, IfErr, OnOk, All, map};
 ghost use Rattle.std.specs.List.{AllZip};
 ghost use Rattle.wire_msg.specs.Words.{plain_envelope};
-ghost use Rattle.overlay_rules.specs.Record.{Legal, sent_in};
-ghost use Rattle.weave_laws.specs.Cells.{Comes};
+ghost use Rattle.overlay_rules.specs.Record.{Legal, all_differ, sent_in};
 ghost use Rattle.weave_laws.specs.AtNode.{IsPartOf};
-ghost use Rattle.weave_laws.specs.Woven.{IsEntryOf, IsEventOf, IsWoven};
-ghost use Rattle.node_cell.specs.Entries.{plain_entry};
+ghost use Rattle.weave_laws.specs.Cells.{Comes, nodes_of};
+ghost use Rattle.weave_laws.specs.Woven.{AreInOrder, IsEntryOf, IsEventOf, IsWoven};
 ghost use Rattle.weave.specs.ByStamp.{AreByStamp};
-ghost use Rattle.weave.specs.Cells.{AreOneRing, HaveOwnNodes, histories, setting_of};
+ghost use Rattle.weave.specs.Cells.{AreKept, AreOneRing, HaveOwnNodes, histories, setting_of};
 ghost use Rattle.weave.specs.Follow.{FollowSendings};
-ghost use Rattle.weave.specs.Growing.{HasOneMore, IsEmptied};
-ghost use Rattle.weave.specs.Placed.{acts_in, placed, sent_by};
+ghost use Rattle.weave.specs.Growing.{HasOneMore, IsEmptied, KeepsOthers};
+ghost use Rattle.weave.specs.Placed.{IsWithin, act_at, acts_in, placed, sent_by};
 ghost use Rattle.weave.specs.Stray.{IsDueTo};
 ghost use Rattle.weave.specs.Stops.{IsStopAt, StopsAt};
 
@@ -21,6 +20,7 @@ use crate::ahead::{Ahead, TOGETHER};
 use crate::fault::WeaveFault;
 use crate::search::place_among;
 use crate::starts::Starts;
+use crate::strand::{Strand, given_by, lent_by};
 use node_cell::{CellInput, NodeCell};
 use overlay_rules::{Entries, Event, Record};
 use ring_math::OutOfMemory;
@@ -37,8 +37,32 @@ pub fn weave(alloc: Global, cells: &[NodeCell]) -> Result<Record, WeaveFault>
     ensures parts { (founder : _) → AreOneRing cells.now founder → IfOk result (λ steps. All (IsPartOf steps.entries) (histories cells.now)) }
     ensures due { IfErr result (IsDueTo (histories cells.now)) }
 {
-    let acts = woven_order(alloc, cells)?;
-    let entries = entries_of(alloc, &acts)?;
+    let mut strands = lent_by(alloc, cells)?;
+    woven(alloc, &mut strands)
+}
+
+/// The record that [`weave`] gives, of cells that are not needed any more: what their entries sent and noted is not copied into it,
+/// but moved.
+pub fn into_woven(alloc: Global, cells: Vec<NodeCell>) -> Result<Record, WeaveFault>
+    requires { HaveOwnNodes cells.items }
+    ensures woven { IfOk result (λ steps. IsWoven (histories cells.items) steps) }
+    ensures legal { (founder : _) → AreOneRing cells.items founder → IfOk result (λ steps. Legal (setting_of cells.items founder) steps.entries) }
+    ensures parts { (founder : _) → AreOneRing cells.items founder → IfOk result (λ steps. All (IsPartOf steps.entries) (histories cells.items)) }
+    ensures due { IfErr result (IsDueTo (histories cells.items)) }
+{
+    let mut strands = given_by(alloc, cells)?;
+    woven(alloc, &mut strands)
+}
+
+/// The woven record of histories of different nodes.
+fn woven<S: Strand>(alloc: Global, strands: &mut [S]) -> Result<Record, WeaveFault>
+    requires differ { all_differ (nodes_of (map S.history strands.old)) ≡ true }
+    requires kept { AreKept (map S.history strands.old) }
+    ensures woven { IfOk result (IsWoven (map S.history strands.old)) }
+    ensures due { IfErr result (IsDueTo (map S.history strands.old)) }
+{
+    let acts = woven_order(alloc, strands)?;
+    let entries = entries_of(alloc, &acts, strands)?;
     Ok(Record {
         entries,
         skipped: 0,
@@ -46,15 +70,22 @@ pub fn weave(alloc: Global, cells: &[NodeCell]) -> Result<Record, WeaveFault>
 }
 
 /// The entries of a record that these become.
-fn entries_of(alloc: Global, acts: &[Act<'_>]) -> Result<Entries, WeaveFault>
-    requires { FollowSendings (map placed acts.now) }
-    ensures ok { IfOk result (λ entries. AllZip (IsEntryOf (sent_by (acts_in (map placed acts.now)))) (acts_in (map placed acts.now)) entries) }
-    ensures err { IfErr result (StopsAt (sent_by (acts_in (map placed acts.now))) (map placed acts.now)) }
+fn entries_of<S: Strand>(
+    alloc: Global,
+    acts: &[Act],
+    strands: &mut [S],
+) -> Result<Entries, WeaveFault>
+    requires follow { FollowSendings (map (placed (map S.history strands.old)) acts.now) }
+    requires order { AreInOrder (acts_in (map (placed (map S.history strands.old)) acts.now)) }
+    requires within { All (IsWithin (map S.history strands.old)) acts.now }
+    ensures ok { let ps = map (placed (map S.history strands.old)) acts.now in
+        IfOk result (λ entries. AllZip (IsEntryOf (sent_by (acts_in ps))) (acts_in ps) entries) }
+    ensures err { let ps = map (placed (map S.history strands.old)) acts.now in IfErr result (StopsAt (sent_by (acts_in ps)) ps) }
 {
     let mut weaving = Weaving::new(alloc, acts.len());
     for act in acts {
-        weaving.look_ahead(acts)?;
-        weaving.add(alloc, act)?;
+        weaving.look_ahead(acts, strands)?;
+        weaving.add(alloc, act, strands)?;
     }
     Ok(weaving.entries)
 }
@@ -88,7 +119,7 @@ impl Weaving {
     }
 
     /// Looks at the next entries of these, if all that were looked at last are woven, and takes room for what they send and note.
-    fn look_ahead(&mut self, acts: &[Act<'_>]) -> Result<(), OutOfMemory>
+    fn look_ahead<S: Strand>(&mut self, acts: &[Act], strands: &[S]) -> Result<(), OutOfMemory>
         ensures entries { self.new.entries ≡ self.old.entries }
         ensures emptied { IsEmptied self.old → IsEmptied self.new }
     {
@@ -99,110 +130,115 @@ impl Weaving {
         let Some(next) = acts.get(number..) else {
             return Ok(());
         };
-        let load = self.ahead.look(next, self.entries.sent(), &self.starts);
+        let load = self
+            .ahead
+            .look(next, strands, self.entries.sent(), &self.starts);
         self.messages.reserve(load.sent)?;
         self.notes.reserve(load.noted)?;
         Ok(())
     }
 
     /// The entry that one of a history becomes. What it took in is sought among what the entries before it sent, where the record
-    /// has just got it. Its messages and notes share the bytes that the history has.
-    fn add(&mut self, alloc: Global, act: &Act<'_>) -> Result<(), WeaveFault>
+    /// has just got it. Its messages and notes share the bytes that the history has, or are those of the history.
+    fn add<S: Strand>(
+        &mut self,
+        alloc: Global,
+        act: &Act,
+        strands: &mut [S],
+    ) -> Result<(), WeaveFault>
         requires sorted { AreByStamp (sent_in self.old.entries) }
         requires emptied { IsEmptied self.old }
-        ensures ok { OnOk result (HasOneMore (placed act.now).act self.old.entries self.new.entries) }
+        requires within { IsWithin (map S.history strands.old) act.now }
+        ensures ok { OnOk result (HasOneMore (act_at (map S.history strands.old) act.now) self.old.entries self.new.entries) }
         ensures emptied { OnOk result (IsEmptied self.new) }
-        ensures err { IfErr result (IsStopAt (sent_in self.old.entries) (placed act.now)) }
+        ensures others { OnOk result (KeepsOthers act.now (map S.history strands.old) (map S.history strands.new)) }
+        ensures err { IfErr result (IsStopAt (sent_in self.old.entries) (placed (map S.history strands.old) act.now)) }
     {
-        let guess = self.ahead.guess(self.entries.len());
-        let event = event_of(alloc, act, self.entries.sent(), &self.starts, guess)?;
-        let sent = act.entry.sent.as_slice();
-        self.starts.add(act.stamp, act.node(), sent.len())?;
-        copy_envelopes(alloc, &mut self.messages, sent)?;
-        copy_notes(alloc, &mut self.notes, act.entry.notes.as_slice())?;
+        let node = act.node(strands);
+        let event = self.event_of(alloc, act, strands)?;
+        hand_out(alloc, act, strands, &mut self.messages, &mut self.notes)?;
+        self.starts.add(act.stamp, node, self.messages.len())?;
         self.entries
             .append(event, &mut self.messages, &mut self.notes)?;
         Ok(())
     }
-}
 
-fn event_of(
-    alloc: Global,
-    act: &Act<'_>,
-    sent: &[Envelope],
-    starts: &Starts,
-    guess: Option<usize>,
-) -> Result<Event, WeaveFault>
-    requires { AreByStamp (map plain_envelope sent.now) }
-    ensures ok { IfOk result (IsEventOf (map plain_envelope sent.now) (placed act.now).act.node (plain_entry act.now.entry.now).input) }
-    ensures err { IfErr result (IsStopAt (map plain_envelope sent.now) (placed act.now)) }
-{
-    match &act.entry.input {
-        CellInput::Command { number, command } => Ok(Event::Command {
-            node: act.node(),
-            number: *number,
-            command: command.copy(alloc)?,
-        }),
-        CellInput::Comes(envelope) => {
-            let guess = guess_of(starts, guess, envelope);
-            delivery_of(alloc, act, sent, guess, envelope)
+    /// The event that what an entry took in becomes, as the next of the record.
+    fn event_of<S: Strand>(
+        &self,
+        alloc: Global,
+        act: &Act,
+        strands: &[S],
+    ) -> Result<Event, WeaveFault>
+        requires sorted { AreByStamp (sent_in self.now.entries) }
+        requires within { IsWithin (map S.history strands.now) act.now }
+        ensures ok { let own = act_at (map S.history strands.now) act.now in IfOk result (IsEventOf (sent_in self.now.entries) own.node own.entry.input) }
+        ensures err { IfErr result (IsStopAt (sent_in self.now.entries) (placed (map S.history strands.now) act.now)) }
+    {
+        match &act.entry(strands).input {
+            CellInput::Command { number, command } => Ok(Event::Command {
+                node: act.node(strands),
+                number: *number,
+                command: command.copy(alloc)?,
+            }),
+            CellInput::Comes(envelope) => self.delivery_of(alloc, act, strands, envelope),
+            CellInput::Noise => Ok(Event::Noise {
+                node: act.node(strands),
+            }),
         }
-        CellInput::Noise => Ok(Event::Noise { node: act.node() }),
+    }
+
+    /// The delivery of a message that came to the node of an entry.
+    fn delivery_of<S: Strand>(
+        &self,
+        alloc: Global,
+        act: &Act,
+        strands: &[S],
+        envelope: &Envelope,
+    ) -> Result<Event, WeaveFault>
+        requires sorted { AreByStamp (sent_in self.now.entries) }
+        requires within { IsWithin (map S.history strands.now) act.now }
+        requires comes { (act_at (map S.history strands.now) act.now).entry.input ≡ Comes (plain_envelope envelope.now) }
+        ensures ok { IfOk result (IsEventOf (sent_in self.now.entries) (act_at (map S.history strands.now) act.now).node (Comes (plain_envelope envelope.now))) }
+        ensures err { IfErr result (IsStopAt (sent_in self.now.entries) (placed (map S.history strands.now) act.now)) }
+    {
+        match place_among(self.entries.sent(), self.guess_of(envelope), envelope) {
+            Some(message) => Ok(Event::Deliver {
+                message: message as u64,
+            }),
+            None => Err(WeaveFault::Stray {
+                node: act.node(strands),
+                place: act.place as u64,
+                envelope: envelope.copy(alloc)?,
+            }),
+        }
+    }
+
+    /// Where the envelope may stand that the next entry takes in. If it was not seen ahead, an entry just before may have sent it.
+    fn guess_of(&self, envelope: &Envelope) -> Option<usize> {
+        match self.ahead.guess(self.entries.len()) {
+            Some(place) => Some(place),
+            None => self.starts.guess(envelope.stamp, envelope.sender),
+        }
     }
 }
 
-/// Where an envelope may stand, if it is not guessed yet: what is looked at ahead may be sent by an entry just before.
-fn guess_of(starts: &Starts, guess: Option<usize>, envelope: &Envelope) -> Option<usize> {
-    match guess {
-        Some(place) => Some(place),
-        None => starts.guess(envelope.stamp, envelope.sender),
-    }
-}
-
-/// The delivery of a message that came to the node of an entry.
-fn delivery_of(
+/// What an entry of one of the histories sent and noted comes into these lists, which are empty.
+fn hand_out<S: Strand>(
     alloc: Global,
-    act: &Act<'_>,
-    sent: &[Envelope],
-    guess: Option<usize>,
-    envelope: &Envelope,
-) -> Result<Event, WeaveFault>
-    requires sorted { AreByStamp (map plain_envelope sent.now) }
-    requires comes { (plain_entry act.now.entry.now).input ≡ Comes (plain_envelope envelope.now) }
-    ensures ok { IfOk result (IsEventOf (map plain_envelope sent.now) (placed act.now).act.node (Comes (plain_envelope envelope.now))) }
-    ensures err { IfErr result (IsStopAt (map plain_envelope sent.now) (placed act.now)) }
-{
-    match place_among(sent, guess, envelope) {
-        Some(place) => Ok(Event::Deliver {
-            message: place as u64,
-        }),
-        None => Err(WeaveFault::Stray {
-            node: act.node(),
-            place: act.place as u64,
-            envelope: envelope.copy(alloc)?,
-        }),
-    }
-}
-
-/// Copies these to the end of a list. The copies share the bytes that they have.
-fn copy_envelopes(
-    alloc: Global,
-    to: &mut Vec<Envelope>,
-    envelopes: &[Envelope],
+    act: &Act,
+    strands: &mut [S],
+    messages: &mut Vec<Envelope>,
+    notes: &mut Vec<Note>,
 ) -> Result<(), OutOfMemory>
-    ensures { OnOk result (map plain_envelope to.new.items ≡ map plain_envelope to.old.items ++ map plain_envelope envelopes.now) }
+    requires within { IsWithin (map S.history strands.old) act.now }
+    requires messages { messages.old.items ≡ [] }
+    requires notes { notes.old.items ≡ [] }
+    ensures messages { OnOk result (map plain_envelope messages.new.items ≡ (act_at (map S.history strands.old) act.now).entry.sent) }
+    ensures notes { OnOk result (notes.new.items ≡ (act_at (map S.history strands.old) act.now).entry.notes) }
+    ensures others { OnOk result (KeepsOthers act.now (map S.history strands.old) (map S.history strands.new)) }
 {
-    for envelope in envelopes {
-        to.push(envelope.copy(alloc)?)?;
-    }
-    Ok(())
-}
-
-fn copy_notes(alloc: Global, to: &mut Vec<Note>, notes: &[Note]) -> Result<(), OutOfMemory>
-    ensures { OnOk result (to.new.items ≡ to.old.items ++ notes.now) }
-{
-    for note in notes {
-        to.push(note.copy(alloc)?)?;
-    }
+    let strand = &mut strands[act.history as usize];
+    strand.hand_out(alloc, act.place as usize, messages, notes)?;
     Ok(())
 }

@@ -9,7 +9,7 @@ use Rattle.overlay_harness.proofs.runs.woven.Goals as goal
 
 pub unreachable-requires : goal.unreachable-requires
 unreachable-requires c =
-    let hs : List History = histories c.args.cells.now in
+    let hs : List History = histories c.args.cells.items in
     let first : IsDueTo hs (fault.Stray c.in-Err-Stray.field-0-0 c.in-Err-Stray.field-0-1 c.in-Err-Stray.field-0-2) =
     subst (IsDueTo hs) c.in-Err-Stray.field-0-is c.in-Err-Stray.ensures.due in
     no_stray hs c.requires.sent c.in-Err-Stray.field-0-0 c.in-Err-Stray.field-0-1 (plain_envelope c.in-Err-Stray.field-0-2) first.stray

@@ -1,31 +1,47 @@
-use Rattle.std.proofs.Common.{rules, ◌≡◌, ◌∙◌, List, All, IsPermutation, map, ap, sym, subst}
-use Rattle.std.proofs.lemmas.List.Sorted.{IsPermutation-map, All-permutation, answers_always}
-use Rattle.weave_laws.specs.Woven.{Act}
-use Rattle.weave_laws.proofs.Sorted.{acts_of, sorted_is_woven}
-use Rattle.node_cell.specs.Cell.{Cell}
-use Rattle.weave.specs.declared.acts.Act.{Act as CodeAct}
-use Rattle.weave.specs.Cells.{histories}
-use Rattle.weave.specs.Placed.{IsEntryIn, Placed, acts_in, placed}
-use Rattle.weave.proofs.Order.{key, sorted_acts}
-use Rattle.weave.proofs.Placing.{acts-all, all-placed, all_stamped, stamped_histories}
+use Rattle.std.proofs.Common.{rules, ◌≡◌, true, List, IsPermutation, map}
+use Rattle.std.proofs.lemmas.List.Sorted.{IsPermutation-map, IsPermutation-sym, IsNonDecreasingBy-from_sort, All-permutation, answers_always}
+use Rattle.overlay_rules.specs.Record.{all_differ}
+use Rattle.weave_laws.specs.Cells.{History, nodes_of}
+use Rattle.weave.specs.declared.acts.Act.{Act}
+use Rattle.weave.specs.Cells.{AreKept, IsKept}
+use Rattle.weave.specs.Placed.{IsWithin, acts_in, placed}
+use Rattle.weave.proofs.Order.{stamp_of}
+use Rattle.weave.proofs.Ordered.{entries_sorted, order_sorted}
+use Rattle.weave.proofs.Permuting.{differ-permuted, entries-permuted, order-permuted}
+use Rattle.weave.proofs.Placing.{NodesRise}
+use Rattle.weave.proofs.Strands.{nodes_rise}
 use Rattle.weave.proofs.acts.woven_order.Goals as goal
 
-pub returns-clause-entries : goal.returns-clause-entries
-returns-clause-entries c =
-    All-permutation (IsEntryIn (histories c.args.cells.now)) (map placed c.in_ok-acts.acts.items) (map placed c.sort_by_key.new.self.items)
-    (IsPermutation-map placed c.in_ok-acts.acts.items c.sort_by_key.new.self.items c.sort_by_key.ensures.permutation)
-    (subst (All (IsEntryIn (histories c.args.cells.now))) (sym c.in_ok-acts.ensures.acts) (all-placed c.args.cells.now))
-
 pub returns-clause-order : goal.returns-clause-order
-returns-clause-order c =
-    let cells : List Cell = c.args.cells.now in
-    let listed : List CodeAct = c.in_ok-acts.acts.items in
-    let sorted : List CodeAct = c.sort_by_key.new.self.items in
-    let moved : IsPermutation (acts_in (map placed listed)) (acts_in (map placed sorted)) =
-    IsPermutation-map (λ (p : Placed). p.act) (map placed listed) (map placed sorted)
-    (IsPermutation-map placed listed sorted c.sort_by_key.ensures.permutation) in
-    let whole : acts_in (map placed listed) ≡ acts_of (histories cells) = ap acts_in c.in_ok-acts.ensures.acts ∙ acts-all cells in
-    sorted_is_woven (histories cells) (acts_in (map placed sorted)) c.requires (stamped_histories cells c.in_ok-acts.ensures.lawful)
-    (subst (λ (acts : List Act). IsPermutation acts (acts_in (map placed sorted))) whole moved)
-    (sorted_acts sorted (c.in_ok-sort_by_key.ensures.sorted key (answers_always _ _ _ (λ f a r g h. search rules)))
-    (all_stamped (histories cells) sorted (returns-clause-entries c)))
+returns-clause-order g c =
+    let history = g.S.Strand.history in
+    let hs : List History = map history c.args.strands.now in
+    let ks : List History = map history c.sort_by_key.new.self in
+    let listed : List Act = c.in_ok-acts.acts.items in
+    let sorted : List Act = c.sort_by_key-2.new.self.items in
+    let same : IsPermutation hs ks = IsPermutation-map history c.args.strands.now c.sort_by_key.new.self c.sort_by_key.ensures.permutation in
+    let differ : all_differ (nodes_of ks) ≡ true =
+    differ-permuted (nodes_of hs) (nodes_of ks) (IsPermutation-map (λ (h : History). h.node) hs ks same) c.requires.differ in
+    let kept : AreKept ks = All-permutation IsKept hs ks same c.requires.kept in
+    let rise : NodesRise ks =
+    nodes_rise history c.sort_by_key.new.self
+    (IsNonDecreasingBy-from_sort (λ s. (history s).node) c.sort_by_key.new.self
+    (c.in_ok-sort_by_key.ensures.sorted (λ s. (history s).node) (answers_always _ _ _ (λ f a r h k. search rules)))) in
+    order-permuted ks hs (acts_in (map (placed ks) sorted)) (IsPermutation-sym hs ks same)
+    (order_sorted ks listed sorted c.in_ok-acts.ensures.acts c.sort_by_key-2.ensures.permutation differ kept rise
+    (c.in_ok-sort_by_key-2.ensures.sorted stamp_of (answers_always _ _ _ (λ f a r h k. search rules)))
+    (c.sort_by_key-2.ensures.stable stamp_of (answers_always _ _ _ (λ f a r h k. search rules))))
+
+pub returns-clause-entries : goal.returns-clause-entries
+returns-clause-entries g c =
+    let history = g.S.Strand.history in
+    let hs : List History = map history c.args.strands.now in
+    let ks : List History = map history c.sort_by_key.new.self in
+    let same : IsPermutation hs ks = IsPermutation-map history c.args.strands.now c.sort_by_key.new.self c.sort_by_key.ensures.permutation in
+    entries-permuted ks hs (map (placed ks) c.sort_by_key-2.new.self.items) (IsPermutation-sym hs ks same)
+    (entries_sorted ks c.in_ok-acts.acts.items c.sort_by_key-2.new.self.items c.in_ok-acts.ensures.acts c.sort_by_key-2.ensures.permutation)
+
+pub returns-clause-within : goal.returns-clause-within
+returns-clause-within g c =
+    All-permutation (IsWithin (map g.S.Strand.history c.sort_by_key.new.self)) c.in_ok-acts.acts.items c.sort_by_key-2.new.self.items
+    c.sort_by_key-2.ensures.permutation c.in_ok-acts.ensures.within

@@ -14,33 +14,28 @@ use Rattle.weave.proofs.Relaying.{nodes_are, whole_alike, whole_legal, whole_rin
 use Rattle.weave.proofs.Strays.{no_stray}
 use Rattle.weave.proofs.through.through_cells.Goals as goal
 
--- the cells that are woven hold what they were given
-held : (g : Setting) (es : List Entry) (cells through_slice : List Cell) → through_slice ≡ cells → Hold g (through g [] es) cells →
-    Hold g (through g [] es) through_slice
-held g es cells through_slice same h = subst (Hold g (through g [] es)) (sym same) h
-
-pub weave-requires : goal.weave-requires
-weave-requires c =
+pub into_woven-requires : goal.into_woven-requires
+into_woven-requires c =
     let g : Setting = setting c.args.nodes.now c.args.founder in
     let es : List Entry = c.args.steps.now.entries in
-    let cells : List Cell = c.deref.result.now in
-    let h : Hold g (through g [] es) cells = held g es c.in_ok-relay.relay.cells.items cells c.deref.ensures.value c.in_ok-relay.ensures in
-    subst (λ (xs : List Id). all_differ xs ≡ true) (sym (nodes_are g (through g [] es) c.deref.result.now h)) c.requires.setting.differ
+    let cells : List Cell = c.in_ok-relay.relay.cells.items in
+    let h : Hold g (through g [] es) cells = c.in_ok-relay.ensures in
+    subst (λ (xs : List Id). all_differ xs ≡ true) (sym (nodes_are g (through g [] es) cells h)) c.requires.setting.differ
 
 pub returns-in-Ok-clause-woven : goal.returns-in-Ok-clause-woven
 returns-in-Ok-clause-woven c =
     let g : Setting = setting c.args.nodes.now c.args.founder in
     let es : List Entry = c.args.steps.now.entries in
-    let cells : List Cell = c.deref.result.now in
-    let h : Hold g (through g [] es) cells = held g es c.in_ok-relay.relay.cells.items cells c.deref.ensures.value c.in_ok-relay.ensures in
+    let cells : List Cell = c.in_ok-relay.relay.cells.items in
+    let h : Hold g (through g [] es) cells = c.in_ok-relay.ensures in
     whole_woven g es c.requires.legal cells h c.in-Ok.woven c.in-Ok.ensures.woven
 
 pub returns-in-Ok-clause-legal : goal.returns-in-Ok-clause-legal
 returns-in-Ok-clause-legal c =
     let g : Setting = setting c.args.nodes.now c.args.founder in
     let es : List Entry = c.args.steps.now.entries in
-    let cells : List Cell = c.deref.result.now in
-    let h : Hold g (through g [] es) cells = held g es c.in_ok-relay.relay.cells.items cells c.deref.ensures.value c.in_ok-relay.ensures in
+    let cells : List Cell = c.in_ok-relay.relay.cells.items in
+    let h : Hold g (through g [] es) cells = c.in_ok-relay.ensures in
     whole_legal g es c.requires.legal cells h c.in-Ok.woven.entries
     (c.in-Ok.ensures.legal c.args.founder (whole_ring g es c.requires.legal cells h c.requires.setting))
 
@@ -48,8 +43,8 @@ pub returns-in-Ok-clause-alike : goal.returns-in-Ok-clause-alike
 returns-in-Ok-clause-alike c =
     let g : Setting = setting c.args.nodes.now c.args.founder in
     let es : List Entry = c.args.steps.now.entries in
-    let cells : List Cell = c.deref.result.now in
-    let h : Hold g (through g [] es) cells = held g es c.in_ok-relay.relay.cells.items cells c.deref.ensures.value c.in_ok-relay.ensures in
+    let cells : List Cell = c.in_ok-relay.relay.cells.items in
+    let h : Hold g (through g [] es) cells = c.in_ok-relay.ensures in
     whole_alike g es c.requires.legal cells h c.in-Ok.woven
     (c.in-Ok.ensures.parts c.args.founder (whole_ring g es c.requires.legal cells h c.requires.setting))
 
@@ -57,8 +52,8 @@ pub unreachable-requires : goal.unreachable-requires
 unreachable-requires c =
     let g : Setting = setting c.args.nodes.now c.args.founder in
     let es : List Entry = c.args.steps.now.entries in
-    let cells : List Cell = c.deref.result.now in
-    let h : Hold g (through g [] es) cells = held g es c.in_ok-relay.relay.cells.items cells c.deref.ensures.value c.in_ok-relay.ensures in
+    let cells : List Cell = c.in_ok-relay.relay.cells.items in
+    let h : Hold g (through g [] es) cells = c.in_ok-relay.ensures in
     let due : IsDueTo (histories cells) c.in-Err-Stray.field-0 = c.in-Err-Stray.ensures.due in
     let first : IsDueTo (histories cells) (fault.Stray c.in-Err-Stray.field-0-0 c.in-Err-Stray.field-0-1 c.in-Err-Stray.field-0-2) =
     subst (IsDueTo (histories cells)) c.in-Err-Stray.field-0-is due in

@@ -1,5 +1,5 @@
 use Rattle.std.proofs.Common.{◌≡◌, ◌++◌, take}
-use Rattle.weave.proofs.weaving.copy_notes.Given as goal
+use Rattle.weave.proofs.strand.copy_notes.Given as goal
 
 -- those so far are copied
 abbrev pub invariant-loop-note : goal.invariant-loop-note

@@ -1,6 +1,6 @@
 use Rattle.std.proofs.Common.{◌≡◌, ◌++◌, map, take}
 use Rattle.wire_msg.specs.Words.{plain_envelope}
-use Rattle.weave.proofs.weaving.copy_envelopes.Given as goal
+use Rattle.weave.proofs.strand.copy_envelopes.Given as goal
 
 -- those so far are copied
 abbrev pub invariant-loop-envelope : goal.invariant-loop-envelope
