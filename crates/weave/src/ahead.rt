@@ -9,7 +9,7 @@ use crate::starts::{Starts, Stretch};
 use crate::strand::Strand;
 use node_cell::{CellEntry, CellInput};
 use ring_math::Id;
-use wire_msg::Envelope;
+use wire_msg::{Envelope, Note};
 
 /// How many entries are looked at together.
 pub(crate) const TOGETHER: usize = 32;
@@ -21,6 +21,9 @@ struct Sight {
     sender: Id,
     near: Stretch,
     guess: Option<usize>,
+    /// What was seen first of what the entry sent and noted. Nothing is done with it.
+    sent: u64,
+    is_answer: bool,
 }
 
 /// How much entries send and note.
@@ -44,31 +47,40 @@ impl Sight {
             sender: Id(0),
             near: Stretch { from: 0, upto: 0 },
             guess: None,
+            sent: 0,
+            is_answer: false,
         }
     }
 
     /// What an entry takes in, when it is not known yet where it may stand.
-    fn of(input: &CellInput) -> Sight {
-        match input {
-            CellInput::Comes(envelope) => Sight {
-                stamp: envelope.stamp,
-                sender: envelope.sender,
-                near: Stretch { from: 0, upto: 0 },
-                guess: None,
-            },
-            CellInput::Command { .. } | CellInput::Noise => Sight::none(),
+    fn of(entry: &CellEntry) -> Sight {
+        let mut sight = Sight::none();
+        if let CellInput::Comes(envelope) = &entry.input {
+            sight.stamp = envelope.stamp;
+            sight.sender = envelope.sender;
         }
+        if let Some(envelope) = entry.sent.as_slice().first() {
+            sight.sent = envelope.stamp;
+        }
+        if let Some(note) = entry.notes.as_slice().first() {
+            sight.is_answer = matches!(note, Note::Answered { .. });
+        }
+        sight
     }
 
-    /// Whether an envelope of the stamp and the sender stands where it is guessed.
+    /// Whether an envelope of the stamp and the sender stands where it is guessed, and none of a later stamp before it.
     fn is_right(&self, sent: &[Envelope]) -> bool {
         let Some(place) = self.guess else {
             return false;
         };
-        match sent.get(place) {
-            // Both are looked at, whatever the first says.
-            Some(envelope) => (envelope.stamp == self.stamp) & (envelope.sender == self.sender),
-            None => false,
+        match (sent.get(place.saturating_sub(1)), sent.get(place)) {
+            // All are looked at, whatever the first says.
+            (Some(before), Some(envelope)) => {
+                (before.stamp <= self.stamp)
+                    & (envelope.stamp == self.stamp)
+                    & (envelope.sender == self.sender)
+            }
+            _ => false,
         }
     }
 }
@@ -82,7 +94,8 @@ impl Ahead {
     }
 
     /// Looks at the first of these entries, and at where what they take in may stand among what was sent. Tells how much they send
-    /// and note.
+    /// and note. It is a call of its own, since what is seen would else be taken for unused, and not be looked at.
+    #[inline(never)]
     pub(crate) fn look<S: Strand>(
         &mut self,
         acts: &[Act],
@@ -90,7 +103,15 @@ impl Ahead {
         sent: &[Envelope],
         starts: &Starts,
     ) -> Load {
-        let load = self.look_at_entries(acts, strands);
+        let mut load = Load { sent: 0, noted: 0 };
+        for (sight, act) in self.sights.iter_mut().zip(acts) {
+            *sight = Sight::none();
+            if let Some(entry) = entry_of(act, strands) {
+                *sight = Sight::of(entry);
+                load.sent = load.sent.saturating_add(entry.sent.as_slice().len());
+                load.noted = load.noted.saturating_add(entry.notes.as_slice().len());
+            }
+        }
         for sight in self.sights.iter_mut() {
             sight.near = starts.near(sight.stamp);
         }
@@ -100,19 +121,6 @@ impl Ahead {
         for sight in self.sights.iter_mut() {
             if !sight.is_right(sent) {
                 sight.guess = None;
-            }
-        }
-        load
-    }
-
-    fn look_at_entries<S: Strand>(&mut self, acts: &[Act], strands: &[S]) -> Load {
-        let mut load = Load { sent: 0, noted: 0 };
-        for (sight, act) in self.sights.iter_mut().zip(acts) {
-            *sight = Sight::none();
-            if let Some(entry) = entry_of(act, strands) {
-                *sight = Sight::of(&entry.input);
-                load.sent = load.sent.saturating_add(entry.sent.as_slice().len());
-                load.noted = load.noted.saturating_add(entry.notes.as_slice().len());
             }
         }
         load
