@@ -5,6 +5,7 @@
 //! step has to be undone.
 #![tactic(auto)]
 
+mod ahead;
 mod keys;
 mod messages;
 mod part;

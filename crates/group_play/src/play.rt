@@ -12,6 +12,7 @@ ghost use Rattle.world_model.specs.Recorded.{Recorded, setting_of, world_of};
 ghost use Rattle.group_play.specs.Messages.{HaveKey, ListsMessages, delivered_by};
 ghost use Rattle.group_play.specs.Playing.{CanAct, IsNewest, IsPlay};
 
+use crate::ahead::Ahead;
 use crate::keys::GroupKeys;
 use crate::messages::Messages;
 use crate::seats::Seats;
@@ -115,7 +116,12 @@ impl Play {
             happened (world_of world.now) self.old.writer.entries (event.Command node number group.now command.now)) }
     {
         let key = self.keys.key(group)?;
-        let at = Spot { node, group, key };
+        let at = Spot {
+            node,
+            group,
+            key,
+            guess: None,
+        };
         self.seats
             .command(alloc, &mut self.writer, world, &at, number, command)?;
         let event = GroupEvent::Command {
@@ -135,13 +141,28 @@ impl Play {
         ensures plays { OnOk result (IsPlay world.now self.new) }
         ensures entries { OnOk result (self.new.writer.entries ≡ settled (world_of world.now) count self.old.writer.entries) }
     {
-        for _turn in 0..count {
+        let mut ahead = Ahead::new();
+        for turn in 0..count {
             match self.messages.oldest() {
-                Some(message) => self.deliver(alloc, world, message)?,
+                Some(message) => {
+                    let guess = self.guess(&mut ahead, message, count - turn);
+                    self.deliver(alloc, world, message, guess)?;
+                }
                 None => return Ok(()),
             }
         }
         Ok(())
+    }
+
+    /// Where the seat may stand to which a message comes, the first of so many that are to be delivered.
+    fn guess(&self, ahead: &mut Ahead, message: usize, left: u32) -> Option<usize> {
+        ahead.guess(
+            message,
+            left,
+            &self.messages.keys,
+            self.writer.sent(),
+            &self.seats,
+        )
     }
 
     /// A message is delivered, if it was sent.
@@ -157,13 +178,19 @@ impl Play {
         ensures entries { OnOk result (self.new.writer.entries ≡ delivered_once (world_of world.now) message self.old.writer.entries) }
     {
         if message < self.messages.keys.len() as u64 {
-            self.deliver(alloc, world, message as usize)?;
+            self.deliver(alloc, world, message as usize, None)?;
         }
         Ok(())
     }
 
-    /// A message that was sent is delivered.
-    fn deliver(&mut self, alloc: Global, world: &World, message: usize) -> Result<(), OutOfMemory>
+    /// A message that was sent is delivered, to a seat that may stand at this place.
+    fn deliver(
+        &mut self,
+        alloc: Global,
+        world: &World,
+        message: usize,
+        guess: Option<usize>,
+    ) -> Result<(), OutOfMemory>
         requires plays { IsPlay world.now self.old }
         requires legal { IsRecord (setting_of world.now) world.now.entries }
         requires sent { message < length (sent_in self.old.writer.entries) }
@@ -177,6 +204,7 @@ impl Play {
             node: sent.receiver,
             group: &sent.group,
             key,
+            guess,
         };
         self.seats.message(
             alloc,

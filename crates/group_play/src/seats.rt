@@ -1,6 +1,6 @@
 //! The seats of nodes in groups, which are found by node and group.
 
-ghost use Rattle.std.specs.Prelude.{◌≡◌, Contains, IfOk, MatchOption, OnOk};
+ghost use Rattle.std.specs.Prelude.{◌≡◌, Contains, IfOk, IfSome, MatchOption, OnOk};
 ghost use Rattle.std.specs.Bool.{Decides};
 ghost use Rattle.ring_math.specs.Keys.{id_of};
 ghost use Rattle.ring_math.specs.Names.{Id as PlainId};
@@ -120,6 +120,9 @@ impl Seats {
         requires key { at.now.key ≡ id_of at.now.group.now }
         ensures { MatchOption result (NoneFrom self.now.items.items 0 at.now.node at.now.group.now) (IsPlaceOf self.now at.now.node at.now.group.now) }
     {
+        if let Some(place) = self.guessed(at) {
+            return Some(place);
+        }
         let mut next = self.last.get(&cw(at.node, at.key)).copied();
         while let Some(place) = next {
             let seat = &self.items[place];
@@ -129,6 +132,15 @@ impl Seats {
             next = seat.before;
         }
         None
+    }
+
+    /// The place where the node's seat in the group may stand, if it does.
+    fn guessed(&self, at: &Spot<'_>) -> Option<usize>
+        ensures { IfSome result (IsPlaceOf self.now at.now.node at.now.group.now) }
+    {
+        let place = at.guess?;
+        let seat = self.items.get(place)?;
+        is_seat_of(seat, at).then_some(place)
     }
 
     /// A seat for a node that has none in the group.

@@ -9,12 +9,13 @@ use ring_math::{Id, OutOfMemory};
 use scenario_reader::Name;
 use scribe_core::{GroupMessage, GroupSent, GroupWriter};
 
-/// A node and a group, in which a step is made, and the group's key.
+/// A node and a group, in which a step is made, the group's key, and where the node's seat in the group may stand.
 #[derive(Clone, Copy)]
 pub(crate) struct Spot<'a> {
     pub(crate) node: Id,
     pub(crate) group: &'a Name,
     pub(crate) key: Id,
+    pub(crate) guess: Option<usize>,
 }
 
 impl Spot<'_> {

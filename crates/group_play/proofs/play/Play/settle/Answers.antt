@@ -9,15 +9,15 @@ pub returns-in-None-clause-entries : goal.returns-in-None-clause-entries
 returns-in-None-clause-entries c =
     let none : oldest_undelivered c.loop-turn.self.writer.entries ≡ None =
     sym (c.in-None.ensures ∙ oldest_listed c.loop-turn.self.writer.entries c.loop-turn.self.messages c.loop-turn.invariant.plays.messages) in
-    sym (settled_idle (world_of c.args.world.now) (c.args.count - c.loop-turn._turn) c.loop-turn.self.writer.entries none) ∙ c.loop-turn.invariant.ends
+    sym (settled_idle (world_of c.args.world.now) (c.args.count - c.loop-turn.turn) c.loop-turn.self.writer.entries none) ∙ c.loop-turn.invariant.ends
 
 pub loop-turn-preserved : goal.loop-turn-preserved
 loop-turn-preserved c =
     let lt = c.loop-turn-test.true in
     let some : oldest_undelivered c.loop-turn.self.writer.entries ≡ Some c.in-Some.message =
     sym (c.in-Some.ensures ∙ oldest_listed c.loop-turn.self.writer.entries c.loop-turn.self.messages c.loop-turn.invariant.plays.messages) in
-    let left : ℕ = c.args.count - (c.loop-turn._turn + 1) in
-    let one_more : suc left ≡ c.args.count - c.loop-turn._turn = omega arith in
+    let left : ℕ = c.args.count - (c.loop-turn.turn + 1) in
+    let one_more : suc left ≡ c.args.count - c.loop-turn.turn = omega arith in
     record {
       plays = c.in_ok-deliver-in-Some.ensures.plays;
       ends = ap (settled (world_of c.args.world.now) left) c.in_ok-deliver-in-Some.ensures.entries

@@ -8,5 +8,5 @@ use Rattle.group_play.proofs.play.Play.settle.Given as goal
 abbrev pub invariant-loop-turn : goal.invariant-loop-turn
 invariant-loop-turn l = record {
   plays : IsPlay l.world l.self;
-  ends : settled (world_of l.world) (l.count - l._turn) l.self.writer.entries ≡ settled (world_of l.world) l.count l.initial.self.writer.entries;
+  ends : settled (world_of l.world) (l.count - l.turn) l.self.writer.entries ≡ settled (world_of l.world) l.count l.initial.self.writer.entries;
 }
