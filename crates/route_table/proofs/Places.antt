@@ -1,13 +1,15 @@
--- The places of a table: what is read there as an entry, and where entries end.
-use Rattle.std.proofs.Common.{◌≡◌, ◌≢◌, ℕ, ◌<◌, ◌≤◌, ◌*◌, ◌+◌, Bool, cond, true, false, ◌==◌, List, [], length, take, replicate, get_or, set, Option, Some}
-use Rattle.std.proofs.Common.{None, refl, sym, ap, ◌∙◌, arith, inl, inr}
+-- The places of a table: what is read there as an entry, and that nothing stands behind the list.
+use Rattle.std.proofs.Common.{◌≡◌, ◌≢◌, ℕ, zero, suc, ◌<◌, ◌≤◌, ◌*◌, ◌+◌, ◌-◌, Bool, cond, true, false, ◌==◌, List, [], ◌∷◌, ◌++◌, length, replicate, get_or}
+use Rattle.std.proofs.Common.{set, Option, Some, None, refl, sym, ap, ◌∙◌, arith, inl, inr}
 use Rattle.std.specs.Prelude.{◌↔◌}
 use Rattle.std.specs.List.{Contains}
 use Rattle.std.proofs.lemmas.Bool.{cases_lt, cond-true, cond-false, eq-eqb, ne_eqb}
-use Rattle.std.proofs.lemmas.List.{get_or-map, get_or-take, get_or-replicate, get_or_past, length-map, length-take, length-replicate, take-map, map-set}
+use Rattle.std.proofs.lemmas.List.{get_or-map, get_or-replicate, get_or_past, set-append_left}
+use Rattle.std.proofs.lemmas.List.{length-set, length-map, length-append, length-replicate, map-set, map-append, append_assoc, replicate-append-replicate}
+use Rattle.std.proofs.lemmas.List.Elements.{Contains-append_left, Contains-append_cases}
 use Rattle.ring_math.specs.declared.limits.TheConstants.{DIGITS, DIGIT_VALUES}
 use Rattle.route_table.specs.Entries.{StandsFor}
-use Rattle.route_table.specs.Filled.{entry_at, entries_at, FilledTo}
+use Rattle.route_table.specs.Filled.{entry_at, entries_at, all_entries}
 
 entry_none : (me : ℕ) → entry_at me me ≡ None
 entry_none me = cond-true (me == me) None (Some me) (eq-eqb me me refl)
@@ -35,64 +37,72 @@ pub read_nothing : (me : ℕ) (ids : List ℕ) (i y : ℕ) → i < length ids �
 read_nothing me ids i y lt read same =
     sym (get_or-map (entry_at me) ids i y None lt ∙ ap (entry_at me) (sym read) ∙ cond-true (y == me) None (Some y) same)
 
+-- ---- all the entries
+
+abbrev none : Option ℕ
+none = None
+
+-- what stands behind so many
+abbrev behind : ℕ → List (Option ℕ)
+behind n = replicate (DIGITS * DIGIT_VALUES - n) None
+
 -- an entry that is filled
-pub entries-set : (me : ℕ) (ids : List ℕ) (i y : ℕ) → y ≢ me → entries_at me (set ids i y) ≡ set (entries_at me ids) i (Some y)
-entries-set me ids i y ne = map-set (entry_at me) ids i y ∙ ap (set (entries_at me ids) i) (entry_some me y ne)
+all_entries-set : (me : ℕ) (ids : List ℕ) (i y : ℕ) → i < length ids → y ≢ me → all_entries me (set ids i y) ≡ set (all_entries me ids) i (Some y)
+all_entries-set me ids i y lt ne =
+    ap (λ es. es ++ behind (length (set ids i y))) (map-set (entry_at me) ids i y ∙ ap (set (entries_at me ids) i) (entry_some me y ne))
+    ∙ ap (λ n. set (entries_at me ids) i (Some y) ++ behind n) (length-set ids i y)
+    ∙ sym (set-append_left (entries_at me ids) (behind (length ids)) i (Some y) (omega (arith, length-map ids (entry_at me))))
+
+entries_at-none : (me n : ℕ) → entries_at me (replicate n me) ≡ replicate n None
+entries_at-none me zero = refl
+entries_at-none me (suc n) = ap (λ e. e ∷ entries_at me (replicate n me)) (entry_none me) ∙ ap (λ es. None ∷ es) (entries_at-none me n)
+
+-- the node itself at new places is nothing, as was there before
+all_entries-longer : (me : ℕ) (ids : List ℕ) (n : ℕ) → length ids + n ≤ DIGITS * DIGIT_VALUES → all_entries me (ids ++ replicate n me) ≡ all_entries me ids
+all_entries-longer me ids n le =
+    let long : length (ids ++ replicate n me) ≡ length ids + n = omega (arith, length-append ids (replicate n me), length-replicate n me) in
+    let both : n + (DIGITS * DIGIT_VALUES - (length ids + n)) ≡ DIGITS * DIGIT_VALUES - length ids = omega arith in
+    ap (λ es. es ++ behind (length (ids ++ replicate n me))) (map-append (entry_at me) ids (replicate n me)
+    ∙ ap (λ es. entries_at me ids ++ es) (entries_at-none me n))
+    ∙ ap (λ m. (entries_at me ids ++ replicate n None) ++ behind m) long
+    ∙ append_assoc (entries_at me ids) (replicate n None) (behind (length ids + n))
+    ∙ ap (λ es. entries_at me ids ++ es) (replicate-append-replicate n (DIGITS * DIGIT_VALUES - (length ids + n)) None ∙ ap (λ m. replicate m None) both)
+
+-- a list that was lengthened to have a place, and then has an entry there
+pub all_entries-filled : (me : ℕ) (ids : List ℕ) (i y : ℕ) → length ids ≤ DIGITS * DIGIT_VALUES → i < DIGITS * DIGIT_VALUES → y ≢ me →
+    all_entries me (set (ids ++ replicate (i + 1 - length ids) me) i y) ≡ set (all_entries me ids) i (Some y)
+all_entries-filled me ids i y short lt ne =
+    let n = i + 1 - length ids in
+    let there : i < length (ids ++ replicate n me) = omega (arith, length-append ids (replicate n me), length-replicate n me) in
+    all_entries-set me (ids ++ replicate n me) i y there ne ∙ ap (λ es. set es i (Some y)) (all_entries-longer me ids n (omega arith))
 
 -- ---- a table with no entry
 
-all_empty : (me n k : ℕ) → get_or (entries_at me (replicate n me)) k None ≡ None
-all_empty me n k =
-    elim (cases_lt k n) [
-      | inl lt ↦ get_or-map (entry_at me) (replicate n me) k me None (omega (arith, length-replicate n me))
-          ∙ ap (entry_at me) (get_or-replicate n k me me lt) ∙ entry_none me
-      | inr ge ↦ get_or_past (entries_at me (replicate n me)) k None (omega (arith, length-map (replicate n me) (entry_at me), length-replicate n me))
+get_or-none : (n i : ℕ) → get_or (replicate n None) i None ≡ none
+get_or-none n i =
+    elim (cases_lt i n) [
+      | inl lt ↦ get_or-replicate n i None None lt
+      | inr ge ↦ get_or_past (replicate n none) i None (omega (arith, length-replicate n none))
     ]
 
-pub stands-empty : (me : ℕ) (ids : List ℕ) → ids ≡ replicate (DIGITS * DIGIT_VALUES) me → StandsFor (record { me = me; entries = entries_at me ids }) []
+pub stands-empty : (me : ℕ) (ids : List ℕ) → ids ≡ [] → StandsFor (record { me = me; entries = all_entries me ids }) []
 stands-empty me ids is = rw is (record {
-  size = length-map (replicate (DIGITS * DIGIT_VALUES) me) (entry_at me) ∙ length-replicate (DIGITS * DIGIT_VALUES) me;
-  entry = λ row col hr hc. all_empty me (DIGITS * DIGIT_VALUES) (DIGIT_VALUES * row + col);
+  size = length-replicate (DIGITS * DIGIT_VALUES) none;
+  entry = λ row col hr hc. get_or-none (DIGITS * DIGIT_VALUES) (DIGIT_VALUES * row + col);
 })
 
-pub filled_to-empty : (me : ℕ) (ids : List ℕ) (n : ℕ) → ids ≡ replicate n me → FilledTo me ids 0
-filled_to-empty me ids n is = rw is (record { within = omega arith; empty = empty }) where
-  empty : (k : ℕ) → 0 ≤ k → get_or (replicate n me) k me ≡ me
-  empty k h =
-      elim (cases_lt k n) [
-        | inl lt ↦ get_or-replicate n k me me lt
-        | inr ge ↦ get_or_past (replicate n me) k me (omega (arith, length-replicate n me))
-      ]
+-- ---- which entries there are
 
--- ---- where entries end
-
-module _ (me : ℕ) (ids : List ℕ) (n : ℕ) (f : FilledTo me ids n) where
-  short : length (entries_at me (take n ids)) ≡ n
-  short = let within = f.within in omega (arith, length-map (take n ids) (entry_at me), length-take n ids)
-
-  long : length (entries_at me ids) ≡ length ids
-  long = length-map ids (entry_at me)
-
-  same_at : (k : ℕ) (d : Option ℕ) → k < n → get_or (entries_at me (take n ids)) k d ≡ get_or (entries_at me ids) k d
-  same_at k d lt = ap (λ es. get_or es k d) (sym (take-map (entry_at me) n ids)) ∙ get_or-take n (entries_at me ids) k d lt
-
-  none_behind : (k : ℕ) (z : ℕ) → n ≤ k → k < length ids → get_or (entries_at me ids) k (Some z) ≡ Some z → ⊥
-  none_behind k z ge lt at =
-      let empty : get_or (entries_at me ids) k (Some z) ≡ None =
-      get_or-map (entry_at me) ids k me (Some z) lt ∙ ap (entry_at me) (f.empty k ge) ∙ entry_none me in
+-- an entry stands where the list has a place
+pub contains_all : (me : ℕ) (ids : List ℕ) (z : ℕ) → Contains (all_entries me ids) (Some z) ↔ Contains (entries_at me ids) (Some z)
+contains_all me ids z = (there, Contains-append_left (entries_at me ids) (behind (length ids)) (Some z)) where
+  nobody : (n : ℕ) → Contains (replicate n none) (Some z) → ⊥
+  nobody n (k, lt, at) =
+      let empty : get_or (replicate n none) k (Some z) ≡ none = get_or-replicate n k none (Some z) (omega (arith, length-replicate n none)) in
       cc
 
-  -- an entry stands before the place from which on nothing stands
-  pub contains_filled : (z : ℕ) → Contains (entries_at me ids) (Some z) ↔ Contains (entries_at me (take n ids)) (Some z)
-  contains_filled z = (there, back) where
-    there : Contains (entries_at me ids) (Some z) → Contains (entries_at me (take n ids)) (Some z)
-    there (k, lt, at) = elim (cases_lt k n) [
-      | inl before ↦ (k, omega (arith, short), same_at k (Some z) before ∙ at)
-      | inr behind ↦ absurd (none_behind k z behind (omega (arith, long)) at)
-    ]
-
-    back : Contains (entries_at me (take n ids)) (Some z) → Contains (entries_at me ids) (Some z)
-    back (k, lt, at) =
-        let before : k < n = omega (arith, short) in
-        let within = f.within in
-        (k, omega (arith, long), sym (same_at k (Some z) before) ∙ at)
+  there : Contains (all_entries me ids) (Some z) → Contains (entries_at me ids) (Some z)
+  there c = elim (Contains-append_cases (entries_at me ids) (behind (length ids)) (Some z) c) [
+    | inl in_list ↦ in_list
+    | inr at_end ↦ absurd (nobody (DIGITS * DIGIT_VALUES - length ids) at_end)
+  ]

@@ -2,7 +2,8 @@
 //! leading digits with the node and has digit d there (Pastry's routing table, Rowstron and Druschel 2001).
 #![tactic(auto)]
 
-ghost use Rattle.std.specs.Prelude.{◌≡◌, ◌≢◌, ◌<◌, ◌+◌, ◌*◌, ◌↔◌, List, [], is_none, IsTrue, MatchOption, IfOk, Some, Contains};
+ghost use Rattle.std.specs.Prelude.{◌≡◌, ◌≢◌, ◌<◌, ◌≤◌, ◌+◌, ◌-◌, ◌*◌, ◌↔◌, ◌++◌, List, [], length, replicate, vec_capacity};
+ghost use Rattle.std.specs.Prelude.{is_none, IsTrue, MatchOption, IfOk, Some, Contains};
 ghost use Rattle.std.specs.Bool.{OnTrue, OnFalse};
 ghost use Rattle.ring_math.specs.Names.{Id};
 ghost use Rattle.ring_math.specs.Members.{IsClosest};
@@ -23,23 +24,22 @@ const ENTRIES: usize = DIGITS as usize * DIGIT_VALUES as usize;
 #[derive(Drop)]
 pub struct RouteTable {
     me: Id,
-    /// Where nothing belongs stands the node itself, which is never learnt.
+    /// The entries up to the last that is filled; the room for all of them is there. Where nothing belongs stands the node
+    /// itself, which is never learnt.
     ids: Vec<Id>,
-    /// How many there are up to the last entry that is filled.
-    filled: usize,
 }
 
 impl Model for RouteTable {
-    ghost use Rattle.std.specs.Prelude.{◌≡◌, ◌*◌, length};
+    ghost use Rattle.std.specs.Prelude.{◌≤◌, ◌*◌, length, vec_capacity};
     ghost use Rattle.ring_math.specs.declared.limits.TheConstants.{DIGITS, DIGIT_VALUES};
     ghost use Rattle.route_table.specs.Entries.{Table};
-    ghost use Rattle.route_table.specs.Filled.{entries_at, FilledTo};
+    ghost use Rattle.route_table.specs.Filled.{all_entries};
 
     ghost Value = { Table };
 
-    ghost view = { λ a. record { me = a.me; entries = entries_at a.me a.ids.items } };
+    ghost view = { λ a. record { me = a.me; entries = all_entries a.me a.ids.items } };
 
-    ghost invariant = { λ a. (length a.ids.items ≡ DIGITS * DIGIT_VALUES) × FilledTo a.me a.ids.items a.filled };
+    ghost invariant = { λ a. (length a.ids.items ≤ DIGITS * DIGIT_VALUES) × (DIGITS * DIGIT_VALUES ≤ vec_capacity a.ids) };
 }
 
 /// The place of an entry among the rows.
@@ -57,6 +57,17 @@ fn entry_at(me: Id, id: Id) -> Option<Id>
     ensures { result ≡ entry_at_of me id }
 {
     if id == me { None } else { Some(id) }
+}
+
+/// Adds an identifier as often as a list needs it to have so many. The room is there, so it takes no memory.
+fn lengthen(ids: &mut Vec<Id>, count: usize, id: Id)
+    requires { count ≤ vec_capacity ids.old }
+    ensures items { ids.new.items ≡ ids.old.items ++ replicate (count - length ids.old.items) id }
+    ensures room { vec_capacity ids.old ≤ vec_capacity ids.new }
+{
+    if ids.len() < count {
+        let _ = ids.resize(count, id);
+    }
 }
 
 /// Whether an identifier is nearer to the key than another, whose distance from the key is known.
@@ -85,8 +96,8 @@ impl RouteTable {
         ensures me { IfOk result (λ table. table.me ≡ me) }
         ensures stands { IfOk result (λ table. StandsFor table []) }
     {
-        let ids = vec![in alloc; me; ENTRIES]?;
-        Ok(RouteTable { me, ids, filled: 0 })
+        let ids = Vec::with_capacity(alloc, ENTRIES)?;
+        Ok(RouteTable { me, ids })
     }
 
     /// The node whose table it is.
@@ -100,12 +111,9 @@ impl RouteTable {
     pub fn copy(&self, alloc: Global) -> Result<RouteTable, OutOfMemory>
         ensures { IfOk result (λ copy. copy ≡ self.now) }
     {
-        let ids = self.ids.as_slice().to_vec(alloc)?;
-        Ok(RouteTable {
-            me: self.me,
-            ids,
-            filled: self.filled,
-        })
+        let mut ids = Vec::with_capacity(alloc, ENTRIES)?;
+        ids.extend_from_slice(&self.ids)?;
+        Ok(RouteTable { me: self.me, ids })
     }
 
     /// The entry of a row and a column. None exactly where nothing that was learnt belongs there.
@@ -114,7 +122,10 @@ impl RouteTable {
         requires col { col < DIGIT_VALUES }
         ensures { result ≡ entry_in self.now row col }
     {
-        entry_at(self.me, self.ids[place_of(row, col)])
+        match self.ids.get(place_of(row, col)) {
+            Some(id) => entry_at(self.me, *id),
+            None => None,
+        }
     }
 
     /// Whether an identifier is an entry. One that is was learnt before.
@@ -137,7 +148,7 @@ impl RouteTable {
     fn filled(&self) -> &[Id]
         ensures { (z : Id) → Contains self.now.entries (Some z) ↔ Contains (entries_at self.now.me result.now) (Some z) }
     {
-        &self.ids[..self.filled]
+        self.ids.as_slice()
     }
 
     /// Fills an entry where it is empty, and answers whether it was.
@@ -149,12 +160,12 @@ impl RouteTable {
         ensures filled { OnTrue result (self.new ≡ with_entry self.old row col id) }
         ensures same { OnFalse result (self.new ≡ self.old) }
     {
-        let place = place_of(row, col);
-        if self.ids[place] != self.me {
+        if self.entry(row, col).is_some() {
             return false;
         }
+        let place = place_of(row, col);
+        lengthen(&mut self.ids, place + 1, self.me);
         self.ids[place] = id;
-        self.filled = self.filled.max(place + 1);
         true
     }
 
