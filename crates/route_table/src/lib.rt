@@ -59,7 +59,9 @@ fn entry_at(me: Id, id: Id) -> Option<Id>
     if id == me { None } else { Some(id) }
 }
 
-/// Adds an identifier as often as a list needs it to have so many. The room is there, so it takes no memory.
+/// Adds an identifier as often as a list needs it to have so many. The room is there, so it takes no memory. A table is asked
+/// far more often than it grows, so this stays out of what asks it.
+#[inline(never)]
 fn lengthen(ids: &mut Vec<Id>, count: usize, id: Id)
     requires { count ≤ vec_capacity ids.old }
     ensures items { ids.new.items ≡ ids.old.items ++ replicate (count - length ids.old.items) id }
