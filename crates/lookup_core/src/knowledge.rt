@@ -82,8 +82,8 @@ impl Knowledge {
         if self.table.holds(id) {
             return false;
         }
-        let on_side = self.leafs.learn(id);
         let in_table = self.table.learn(id);
+        let on_side = self.leafs.learn(id);
         on_side || in_table
     }
 
