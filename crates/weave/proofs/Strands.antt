@@ -1,18 +1,22 @@
 -- Strands as the histories that they are, and what handing out of one leaves as it was.
 use Rattle.std.proofs.Common.{◌≡◌, ◌≢◌, ◌<◌, ◌≤◌, ◌+◌, ◌⊎◌, inl, inr, ℕ, zero, suc, List, [], ◌∷◌, map, length, get_or, All, refl, sym, subst, ap, ◌∙◌, arith}
-use Rattle.std.proofs.Common.{length-set}
+use Rattle.std.proofs.Common.{◌-◌, ◌++◌, length-append, length-set, replicate, reverse}
 use Rattle.std.proofs.Math.ListN.{set}
 use Rattle.std.specs.List.Sorted.{IsNonDecreasingBy}
-use Rattle.std.proofs.lemmas.Bool.{cases_eq}
-use Rattle.std.proofs.lemmas.List.{length-map}
+use Rattle.std.proofs.lemmas.Bool.{cases_eq, cases_lt}
+use Rattle.std.proofs.lemmas.List.{get_or-append-add, get_or-replicate, get_or-reverse, get_or_append_left, get_or_past, length-map, length-replicate}
+use Rattle.std.proofs.lemmas.List.{length-reverse, map-append, reverse-append, reverse-reverse}
 use Rattle.overlay_rules.proofs.Each.{Each, Each-all, Each-get_or, Each-map, Each-from_all}
-use Rattle.weave_laws.specs.Cells.{History}
+use Rattle.weave_laws.specs.Cells.{CellEntry, History}
 use Rattle.weave_laws.specs.Woven.{AreInOrder, ComesBefore}
 use Rattle.node_cell.specs.Cell.{Cell}
 use Rattle.weave.specs.declared.acts.Act.{Act as CodeAct}
 use Rattle.weave.specs.Cells.{AreKept, IsKept, IsLawful, histories, kept_history}
+use Rattle.node_cell.specs.declared.entry.CellEntry.{CellEntry as CodeEntry}
+use Rattle.node_cell.specs.Entries.{plain_entry, plain_history}
 use Rattle.weave.specs.Growing.{KeepsOthers, StillStand}
-use Rattle.weave.specs.Placed.{IsWithin, act_at, acts_in, entry_at, history_at, placed}
+use Rattle.weave.specs.Placed.{IsWithin, act_at, acts_in, entry_at, history_at, no_entry, placed}
+use Rattle.weave.specs.Strands.{left_of}
 use Rattle.weave.proofs.Placing.{NodesRise}
 use Rattle.weave.proofs.Standing.{never_both}
 
@@ -150,3 +154,65 @@ still_stand first before after acts i x o lt is keeps still = record {
   default [] n d e lt = absurd (omega arith)
   default (y ∷ ys) zero d e lt = refl
   default (y ∷ ys) (suc n) d e lt = default ys n d e (omega arith)
+
+-- ---- entries of which the last stand first, and the first are gone
+
+pub length-left_of : (n : ℕ) (es : List CellEntry) → length es ≤ n → length (left_of n es) ≡ n
+length-left_of n es le =
+    let both = length-append (replicate (n - length es) no_entry) (reverse es) in
+    let gone = length-replicate (n - length es) no_entry in
+    let left = length-reverse es in
+    omega arith
+
+-- an entry stands as far from the end of these as its place is from the front
+pub at_left_of : (n : ℕ) (es : List CellEntry) (place index : ℕ) → length es ≤ n → index + place + 1 ≡ n → entry_at (left_of n es) place ≡ entry_at es index
+at_left_of n es place index le is =
+    elim (cases_lt place (n - length es)) [
+      | inl lt ↦
+          get_or_append_left (replicate (n - length es) no_entry) (reverse es) no_entry place
+          (let gone = length-replicate (n - length es) no_entry in omega arith)
+          ∙ get_or-replicate (n - length es) place no_entry no_entry lt
+          ∙ sym (get_or_past es index no_entry (omega arith))
+      | inr ge ↦
+          let gone = length-replicate (n - length es) no_entry in
+          let behind : n - length es + (place - (n - length es)) ≡ place = omega arith in
+          let mirrored : length es - 1 - (place - (n - length es)) ≡ index = omega arith in
+          ap (entry_at (left_of n es)) (sym behind)
+          ∙ ap (λ m. entry_at (left_of n es) (m + (place - (n - length es)))) (sym gone)
+          ∙ get_or-append-add (replicate (n - length es) no_entry) (reverse es) (place - (n - length es)) no_entry
+          ∙ get_or-reverse es (place - (n - length es)) no_entry (omega arith)
+          ∙ ap (entry_at es) mirrored
+    ]
+
+-- and past them all is nothing
+pub past_left_of : (n : ℕ) (es : List CellEntry) (place : ℕ) → length es ≤ n → n ≤ place → entry_at (left_of n es) place ≡ no_entry
+past_left_of n es place le past = let long = length-left_of n es le in get_or_past (left_of n es) place no_entry (omega arith)
+
+map_reverse : (es : List CodeEntry) → plain_history (reverse es) ≡ reverse (plain_history es)
+map_reverse [] = refl
+map_reverse (e ∷ es) =
+    ap plain_history (reverse-append (e ∷ []) es)
+    ∙ map-append plain_entry (reverse es) (e ∷ [])
+    ∙ ap (λ (ds : List CellEntry). ds ++ plain_entry e ∷ []) (map_reverse es)
+    ∙ sym (reverse-append (plain_entry e ∷ []) (plain_history es))
+
+-- all are left, if all stand there
+pub all_left : (es : List CodeEntry) → left_of (length (reverse es)) (plain_history (reverse es)) ≡ plain_history es
+all_left es =
+    let long : length (reverse es) - length (plain_history (reverse es)) ≡ 0 = let same = length-map (reverse es) plain_entry in omega arith in
+    ap (λ n. replicate n no_entry ++ reverse (plain_history (reverse es))) long
+    ∙ ap reverse (map_reverse es)
+    ∙ reverse-reverse (plain_history es)
+
+-- what is as before but for one of these is so as they are seen
+pub others_left : (n : ℕ) (before after : List CellEntry) (place index : ℕ) → length before ≤ n → length after ≤ n → index + place + 1 ≡ n →
+    ((k : ℕ) → k ≢ index → entry_at after k ≡ entry_at before k) → (k : ℕ) → k ≢ place → entry_at (left_of n after) k ≡ entry_at (left_of n before) k
+others_left n before after place index l m is others k ne =
+    elim (cases_lt k n) [
+      | inl lt ↦
+          let mirrored : (n - 1 - k) + k + 1 ≡ n = omega arith in
+          at_left_of n after k (n - 1 - k) m mirrored
+          ∙ others (n - 1 - k) (λ same. ne (let index_is : n - 1 - k ≡ index = same in omega arith))
+          ∙ sym (at_left_of n before k (n - 1 - k) l mirrored)
+      | inr past ↦ past_left_of n after k m past ∙ sym (past_left_of n before k l past)
+    ]

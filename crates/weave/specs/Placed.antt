@@ -20,12 +20,16 @@ pub record Placed : Type 0 where
   pub place : ℕ
   pub act : Act
 
+-- nothing that came
+abbrev pub no_entry : CellEntry
+no_entry = record { stamp = 0; input = Noise; sent = []; notes = [] }
+
 -- the history of this number, and the entry at this place; what is past the end is no matter
 abbrev pub history_at : List History → ℕ → History
 history_at hs n = slice_index_or hs n (record { node = 0; entries = [] })
 
 abbrev pub entry_at : List CellEntry → ℕ → CellEntry
-entry_at es n = slice_index_or es n (record { stamp = 0; input = Noise; sent = []; notes = [] })
+entry_at es n = slice_index_or es n no_entry
 
 -- the entry that stands there
 abbrev pub act_at : List History → CodeAct → Act

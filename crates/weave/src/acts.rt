@@ -4,9 +4,9 @@ ghost use Rattle.std.specs.Prelude.{◌≡◌, ◌++◌, true, IfOk, OnOk, All, 
 ghost use Rattle.overlay_rules.specs.Record.{all_differ};
 ghost use Rattle.weave_laws.specs.Cells.{nodes_of};
 ghost use Rattle.weave_laws.specs.Woven.{IsWovenOrder};
-ghost use Rattle.node_cell.specs.Entries.{plain_entry, plain_history};
 ghost use Rattle.weave.specs.Cells.{AreKept};
 ghost use Rattle.weave.specs.Placed.{AreEntriesOf, IsWithin, act_at, acts_from, acts_in, all_placed, placed};
+ghost use Rattle.weave.specs.Strands.{entry_seen};
 
 use crate::strand::Strand;
 use node_cell::CellEntry;
@@ -31,13 +31,12 @@ impl Act {
         strands[self.history as usize].node()
     }
 
-    /// The entry itself.
-    pub(crate) fn entry<'a, S: Strand>(&self, strands: &'a [S]) -> &'a CellEntry
+    /// The entry itself, if it is not gone.
+    pub(crate) fn entry<'a, S: Strand>(&self, strands: &'a [S]) -> Option<&'a CellEntry>
         requires { IsWithin (map S.history strands.now) self.now }
-        ensures { plain_entry result.now ≡ (act_at (map S.history strands.now) self.now).entry }
+        ensures { entry_seen result ≡ (act_at (map S.history strands.now) self.now).entry }
     {
-        let entries = strands[self.history as usize].entries();
-        &entries[self.place as usize]
+        strands[self.history as usize].entry(self.place as usize)
     }
 }
 
@@ -67,25 +66,34 @@ fn all_acts<S: Strand>(alloc: Global, strands: &[S]) -> Result<Vec<Act>, OutOfMe
 {
     let mut acts = Vec::new(alloc);
     for history in 0..small(strands.len())? {
-        add_history(&mut acts, history, strands[history as usize].entries())?;
+        add_history(&mut acts, history, &strands[history as usize])?;
     }
     Ok(acts)
 }
 
 /// The entries of the history of this number.
-fn add_history(acts: &mut Vec<Act>, history: u32, entries: &[CellEntry]) -> Result<(), OutOfMemory>
-    ensures { OnOk result (acts.new.items ≡ acts.old.items ++ acts_from history 0 (plain_history entries.now)) }
+fn add_history<S: Strand>(acts: &mut Vec<Act>, history: u32, strand: &S) -> Result<(), OutOfMemory>
+    ensures { OnOk result (acts.new.items ≡ acts.old.items ++ acts_from history 0 (S.history strand.now).entries) }
 {
-    let count = small(entries.len())?;
-    acts.reserve(entries.len())?;
+    let count = small(strand.count())?;
+    acts.reserve(count as usize)?;
     for place in 0..count {
         acts.push_reserved(Act {
-            stamp: entries[place as usize].stamp,
+            stamp: stamp_of(strand.entry(place as usize)),
             history,
             place,
         });
     }
     Ok(())
+}
+
+fn stamp_of(entry: Option<&CellEntry>) -> u64
+    ensures { result ≡ (entry_seen entry.entry).stamp }
+{
+    match entry {
+        Some(entry) => entry.stamp,
+        None => 0,
+    }
 }
 
 /// A number in half its room. What has more than that is more than memory holds.

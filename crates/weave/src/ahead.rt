@@ -134,6 +134,5 @@ impl Ahead {
 
 /// The entry that stands there, if there is one.
 fn entry_of<'a, S: Strand>(act: &Act, strands: &'a [S]) -> Option<&'a CellEntry> {
-    let strand = strands.get(act.history as usize)?;
-    strand.entries().get(act.place as usize)
+    strands.get(act.history as usize)?.entry(act.place as usize)
 }

@@ -7,6 +7,7 @@
 mod acts;
 mod ahead;
 mod fault;
+mod given;
 mod kept;
 mod reading;
 mod relay;

@@ -6,13 +6,12 @@ ghost use Rattle.weave_laws.specs.Cells.{History};
 ghost use Rattle.node_cell.specs.Entries.{plain_history};
 ghost use Rattle.weave.specs.Cells.{IsLawful, histories, kept_history};
 ghost use Rattle.weave.specs.Placed.{entry_at};
-ghost use Rattle.weave.specs.Strands.{history_given};
+ghost use Rattle.weave.specs.Strands.{entry_seen};
 
 use node_cell::{CellEntry, NodeCell};
 use ring_math::{Id, OutOfMemory};
 use std::alloc::Global;
-use std::mem;
-use wire_msg::{Envelope, Envelopes, Note, Notes};
+use wire_msg::{Envelope, Note};
 
 /// A history with its node, which a cell lends or gives.
 pub(crate) trait Strand {
@@ -22,11 +21,16 @@ pub(crate) trait Strand {
     fn node(&self) -> Id
         ensures { result ≡ (history self.now).node };
 
-    fn entries(&self) -> &[CellEntry]
-        ensures { plain_history result.now ≡ (history self.now).entries };
+    /// How many entries there are, those among them that are gone.
+    fn count(&self) -> usize
+        ensures { result ≡ length (history self.now).entries };
+
+    /// The entry at a place, None where there is none, or none any more.
+    fn entry(&self, place: usize) -> Option<&CellEntry>
+        ensures { entry_seen result ≡ entry_at (history self.now).entries place };
 
     /// What an entry sent and noted comes into these lists, which are empty: copies of it, or itself, and then the entry has it no
-    /// more.
+    /// more, or is gone.
     fn hand_out(
         &mut self,
         alloc: Global,
@@ -52,8 +56,12 @@ impl Strand for &NodeCell {
         self.me()
     }
 
-    fn entries(&self) -> &[CellEntry] {
-        self.history()
+    fn count(&self) -> usize {
+        self.history().len()
+    }
+
+    fn entry(&self, place: usize) -> Option<&CellEntry> {
+        entry_of(self.history(), place)
     }
 
     fn hand_out(
@@ -69,38 +77,11 @@ impl Strand for &NodeCell {
     }
 }
 
-/// The history of a cell that is not needed any more.
-#[derive(Drop)]
-pub(crate) struct Given {
-    pub(crate) node: Id,
-    pub(crate) entries: Vec<CellEntry>,
-}
-
-impl Strand for Given {
-    ghost history = { history_given };
-
-    fn node(&self) -> Id {
-        self.node
-    }
-
-    fn entries(&self) -> &[CellEntry] {
-        &self.entries
-    }
-
-    fn hand_out(
-        &mut self,
-        alloc: Global,
-        place: usize,
-        messages: &mut Vec<Envelope>,
-        notes: &mut Vec<Note>,
-    ) -> Result<(), OutOfMemory> {
-        let entry = &mut self.entries[place];
-        let mut sent = mem::replace(&mut entry.sent, Envelopes::new(alloc)).into_items();
-        messages.append(&mut sent)?;
-        let mut noted = mem::replace(&mut entry.notes, Notes::new(alloc)).into_items();
-        notes.append(&mut noted)?;
-        Ok(())
-    }
+/// The entry at a place, if there is one.
+pub(crate) fn entry_of(entries: &[CellEntry], place: usize) -> Option<&CellEntry>
+    ensures { entry_seen result ≡ entry_at (plain_history entries.now) place }
+{
+    entries.get(place)
 }
 
 /// Copies these to the end of a list. The copies share the bytes that they have.
@@ -144,19 +125,4 @@ fn lawful_law(cell: &NodeCell)
     ensures { IsLawful cell.now }
 {
     let _history = cell.history();
-}
-
-/// The histories of cells, which are not needed any more.
-pub(crate) fn given_by(alloc: Global, cells: Vec<NodeCell>) -> Result<Vec<Given>, OutOfMemory>
-    ensures history { IfOk result (λ strands. map history_given strands.items ≡ histories cells.items) }
-    ensures lawful { OnOk result (All IsLawful cells.items) }
-{
-    let mut strands = Vec::new(alloc);
-    for cell in cells {
-        strands.push(Given {
-            node: cell.me(),
-            entries: cell.into_history(),
-        })?;
-    }
-    Ok(strands)
 }

@@ -6,7 +6,7 @@ ghost use Rattle.weave.specs.ByStamp.{AreByStamp, envelopes_at, kept_in};
 ghost use Rattle.overlay_rules.specs.Record.{all_differ};
 ghost use Rattle.weave_laws.specs.Cells.{nodes_of};
 ghost use Rattle.weave.specs.Cells.{AreKept, HaveOwnNodes, histories};
-ghost use Rattle.node_cell.specs.Entries.{plain_entry};
+ghost use Rattle.weave.specs.Strands.{entry_seen};
 ghost use Rattle.weave.specs.Placed.{IsWithin, acts_in, placed};
 ghost use Rattle.weave.specs.Unread.{AllRead, IsFirstUnread};
 ghost use Rattle.weave.specs.Wanted.{HasNoWanted, IsFirstWanted, IsFound, HasSame, taken_by, taken_in};
@@ -85,10 +85,10 @@ fn taken_by<'a, S: Strand>(
 }
 
 /// The message that an entry took in, if it is one for this node.
-fn taken_in(entry: &CellEntry, receiver: Id) -> Option<&Envelope>
-    ensures { envelopes_at (option_to_list result) ≡ taken_in receiver (plain_entry entry.now).input }
+fn taken_in(entry: Option<&CellEntry>, receiver: Id) -> Option<&Envelope>
+    ensures { envelopes_at (option_to_list result) ≡ taken_in receiver (entry_seen entry.entry).input }
 {
-    match &entry.input {
+    match &entry?.input {
         CellInput::Comes(envelope) if envelope.receiver == receiver => Some(envelope),
         _ => None,
     }
@@ -107,8 +107,7 @@ fn first_untaken<S: Strand>(
     ensures { IfOk result (IsFound (kept_in taken.now) receiver (map (placed (map S.history strands.now)) acts.now)) }
 {
     for act in acts {
-        let sent = act.entry(strands).sent.as_slice();
-        if let Some(envelope) = first_sent(sent, taken, receiver) {
+        if let Some(envelope) = first_sent_by(act.entry(strands), taken, receiver) {
             return Ok(Some(Unread {
                 node: act.node(strands),
                 place: act.place as u64,
@@ -117,6 +116,19 @@ fn first_untaken<S: Strand>(
         }
     }
     Ok(None)
+}
+
+/// The first such one that an entry sent.
+fn first_sent_by<'a>(
+    entry: Option<&'a CellEntry>,
+    taken: &Sorted<'_>,
+    receiver: Id,
+) -> Option<&'a Envelope>
+    requires { AreByStamp (kept_in taken.now) }
+    ensures some { IfSome result (λ v. IsFirstWanted (kept_in taken.now) receiver (entry_seen entry.entry).sent (plain_envelope v.now)) }
+    ensures none { IfNone result (HasNoWanted (kept_in taken.now) receiver (entry_seen entry.entry).sent) }
+{
+    first_sent(entry?.sent.as_slice(), taken, receiver)
 }
 
 fn first_sent<'a>(sent: &'a [Envelope], taken: &Sorted<'_>, receiver: Id) -> Option<&'a Envelope>

@@ -18,9 +18,10 @@ ghost use Rattle.weave.specs.Stops.{IsStopAt, StopsAt};
 use crate::acts::{Act, woven_order};
 use crate::ahead::{Ahead, TOGETHER};
 use crate::fault::WeaveFault;
+use crate::given::given_by;
 use crate::search::place_among;
 use crate::starts::Starts;
-use crate::strand::{Strand, given_by, lent_by};
+use crate::strand::{Strand, lent_by};
 use node_cell::{CellInput, NodeCell};
 use overlay_rules::{Entries, Event, Record};
 use ring_math::OutOfMemory;
@@ -175,7 +176,13 @@ impl Weaving {
         ensures ok { let own = act_at (map S.history strands.now) act.now in IfOk result (IsEventOf (sent_in self.now.entries) own.node own.entry.input) }
         ensures err { IfErr result (IsStopAt (sent_in self.now.entries) (placed (map S.history strands.now) act.now)) }
     {
-        match &act.entry(strands).input {
+        // What is gone would be as noise; none of these is.
+        let Some(entry) = act.entry(strands) else {
+            return Ok(Event::Noise {
+                node: act.node(strands),
+            });
+        };
+        match &entry.input {
             CellInput::Command { number, command } => Ok(Event::Command {
                 node: act.node(strands),
                 number: *number,

@@ -1,29 +1,28 @@
-use Rattle.std.proofs.Common.{◌≡◌, ◌∙◌, ◌+◌, ◌++◌, ◌∷◌, [], List, map, take, length, get_or, ap, sym, append_assoc, arith}
-use Rattle.std.proofs.lemmas.List.{map_more, length-map, length-take-le}
-use Rattle.node_cell.specs.declared.entry.CellEntry.{CellEntry}
-use Rattle.node_cell.specs.Entries.{plain_entry}
-use Rattle.weave_laws.specs.Cells as plain
+use Rattle.std.proofs.Common.{◌≡◌, ◌∙◌, ◌<◌, ◌+◌, ◌++◌, ◌∷◌, [], List, take, length, ap, sym, append_assoc, arith}
+use Rattle.std.proofs.lemmas.List.{length-take-le, take_more}
+use Rattle.weave_laws.specs.Cells.{CellEntry}
 use Rattle.weave.specs.declared.acts.Act.{Act}
-use Rattle.weave.specs.Placed.{acts_from}
+use Rattle.weave.specs.Placed.{acts_from, entry_at, no_entry}
 use Rattle.weave.proofs.Placing.{acts_from-push}
 use Rattle.weave.proofs.acts.add_history.Goals as goal
 
 pub loop-place-preserved : goal.loop-place-preserved
-loop-place-preserved c =
+loop-place-preserved g c =
     let place = c.loop-place.place in
-    let entries : List CellEntry = c.args.entries.now in
-    let one : CellEntry = get_or entries place c.index-entries-place.result in
-    let so_far : List plain.CellEntry = map plain_entry (take place entries) in
+    let entries : List CellEntry = (g.S.Strand.history c.args.strand.now).entries in
+    let one : CellEntry = entry_at entries place in
+    let so_far : List CellEntry = take place entries in
     let before : List Act = c.args.acts.now.items in
-    let added : Act = record { stamp = one.stamp; history = c.args.history; place = place } in
-    let long : length so_far ≡ place = length-map (take place entries) plain_entry ∙ length-take-le place entries (omega arith) in
-    let next : map plain_entry (take (place + 1) entries) ≡ so_far ++ plain_entry one ∷ [] =
-    map_more plain_entry entries place c.index-entries-place.result (omega arith) in
+    let lt : place < length entries = omega arith in
+    let long : length so_far ≡ place = length-take-le place entries (omega arith) in
+    let stamp : c.stamp_of.result ≡ one.stamp = c.stamp_of.ensures ∙ ap (λ (e : CellEntry). e.stamp) c.entry.ensures in
     record {
       acts = c.push_reserved.ensures.items
-          ∙ ap (λ (acts : List Act). acts ++ added ∷ []) c.loop-place.invariant.acts
-          ∙ append_assoc before (acts_from c.args.history 0 so_far) (added ∷ [])
+          ∙ ap (λ (acts : List Act). acts ++ record { stamp = c.stamp_of.result; history = c.args.history; place = place } ∷ []) c.loop-place.invariant.acts
+          ∙ ap (λ n. (before ++ acts_from c.args.history 0 so_far) ++ record { stamp = n; history = c.args.history; place = place } ∷ []) stamp
+          ∙ append_assoc before (acts_from c.args.history 0 so_far) (record { stamp = one.stamp; history = c.args.history; place = place } ∷ [])
           ∙ ap (λ (acts : List Act). before ++ acts)
-          (sym (ap (acts_from c.args.history 0) next ∙ acts_from-push c.args.history 0 so_far (plain_entry one) place (omega (arith, long))));
+          (sym (ap (acts_from c.args.history 0) (take_more entries place no_entry lt)
+          ∙ acts_from-push c.args.history 0 so_far one place (omega (arith, long))));
       room = omega arith;
     }

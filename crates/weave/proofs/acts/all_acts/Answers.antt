@@ -1,7 +1,6 @@
 use Rattle.std.proofs.Common.{◌≡◌, ◌∙◌, ◌<◌, ◌++◌, [], ℕ, List, All, map, take, length, ap, sym, subst, arith}
 use Rattle.std.proofs.lemmas.List.{flat_map_more, length-map, map-append, take_more}
 use Rattle.std.proofs.lemmas.List.Elements.{All-append}
-use Rattle.node_cell.specs.Entries.{plain_history}
 use Rattle.weave_laws.specs.Cells.{CellEntry, History}
 use Rattle.weave.specs.declared.acts.Act.{Act}
 use Rattle.weave.specs.Placed.{IsWithin, Placed, acts_from, all_placed, history_at, placed, placed_in}
@@ -15,9 +14,8 @@ loop-history-preserved g c =
     let n : ℕ = c.loop-history.history in
     let so_far : List Act = c.loop-history.acts.items in
     let lt : n < length hs = let long = length-map c.args.strands.now g.S.Strand.history in omega arith in
-    let own : plain_history c.entries.result.now ≡ (history_at hs n).entries =
-    c.entries.ensures
-    ∙ ap (λ (h : History). h.entries)
+    let own : (g.S.Strand.history c.index-strands-history.result).entries ≡ (history_at hs n).entries =
+    ap (λ (h : History). h.entries)
     (sym (at_map g.S.Strand.history c.args.strands.now n c.index-strands-history.result (omega arith) c.index-strands-history.is)) in
     let items : c.add_history.new.acts.items ≡ so_far ++ acts_from n 0 (history_at hs n).entries =
     c.in_ok-add_history.ensures ∙ ap (λ (es : List CellEntry). so_far ++ acts_from n 0 es) own in
