@@ -6,6 +6,7 @@ use Rattle.std.specs.List.Sorted.{IsNonDecreasingBy}
 use Rattle.std.proofs.lemmas.Bool.{cases_eq, cases_lt}
 use Rattle.std.proofs.lemmas.List.{get_or-append-add, get_or-replicate, get_or-reverse, get_or_append_left, get_or_past, length-map, length-replicate}
 use Rattle.std.proofs.lemmas.List.{length-reverse, map-append, reverse-append, reverse-reverse}
+use Rattle.ring_math.specs.Names.{Id}
 use Rattle.overlay_rules.proofs.Each.{Each, Each-all, Each-get_or, Each-map, Each-from_all}
 use Rattle.weave_laws.specs.Cells.{CellEntry, History}
 use Rattle.weave_laws.specs.Woven.{AreInOrder, ComesBefore}
@@ -183,6 +184,15 @@ at_left_of n es place index le is =
           ∙ get_or-reverse es (place - (n - length es)) no_entry (omega arith)
           ∙ ap (entry_at es) mirrored
     ]
+
+-- the same of a history that is seen so
+pub entry_left : (n : ℕ) (es : List CellEntry) (x : Id) (h : History) (place index : ℕ) → length es ≤ n → record { node = x; entries = left_of n es } ≡ h →
+    index + place + 1 ≡ length h.entries → (index + place + 1 ≡ n) × (entry_at es index ≡ entry_at h.entries place)
+entry_left n es x h place index le seen is =
+    let long = length-left_of n es le in
+    let same = ap (λ (k : History). length k.entries) seen in
+    let stands : index + place + 1 ≡ n = omega arith in
+    (stands, sym (at_left_of n es place index le stands) ∙ ap (λ (k : History). entry_at k.entries place) seen)
 
 -- and past them all is nothing
 pub past_left_of : (n : ℕ) (es : List CellEntry) (place : ℕ) → length es ≤ n → n ≤ place → entry_at (left_of n es) place ≡ no_entry
