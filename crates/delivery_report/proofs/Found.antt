@@ -9,7 +9,7 @@ use Rattle.std.specs.BTreeMap.{BTreeMap, get, is_at}
 use Rattle.std.proofs.lemmas.Bool.Decides.{Decides-eqb}
 use Rattle.std.proofs.lemmas.List.Folds.{find-append}
 use Rattle.scenario_reader.specs.declared.node.NodeLine.{NodeLine}
-use Rattle.delivery_report.specs.Names.{FindsAll}
+use Rattle.delivery_report.specs.Names.{FindsAll, IsRight}
 
 or_none : {A : Type 0} (o : Option A) → option_or o None ≡ o
 or_none None = refl
@@ -63,3 +63,20 @@ FindsAll-added {before} {after} {nodes} all node key is new updates = record {
 -- the same map of the same nodes
 pub FindsAll-same : {m n : BTreeMap ℕ (Bor NodeLine)} {xs ys : List NodeLine} → FindsAll m xs → m ≡ n → xs ≡ ys → FindsAll n ys
 FindsAll-same {m} {n} {xs} {ys} all maps nodes = subst (λ k. FindsAll k ys) maps (subst (λ zs. FindsAll m zs) nodes all)
+
+find-passes : (nodes : List NodeLine) (id : ℕ) (node : NodeLine) → Some node ≡ find (λ (x : NodeLine). x.id == id) nodes → node.id ≡ id
+find-passes [] id node e = cc
+find-passes (x ∷ xs) id node e = by (x.id == id) refl e (find-passes xs id node) where
+  by : (b : Bool) → (x.id == id) ≡ b → Some node ≡ cond b (Some x) (find (λ (y : NodeLine). y.id == id) xs) →
+      (Some node ≡ find (λ (y : NodeLine). y.id == id) xs → node.id ≡ id) → node.id ≡ id
+  by true same f later = let first : node ≡ x = cc in ap (λ (y : NodeLine). y.id) first ∙ (Decides-eqb x.id id).0 same
+  by false other f later = later f
+
+-- who is found by an identifier is the first node with its own
+pub found-right : {by_id : BTreeMap ℕ (Bor NodeLine)} {nodes : List NodeLine} → FindsAll by_id nodes → (id : ℕ) (guess : Option (Bor NodeLine)) →
+    guess ≡ get nat_cmp by_id id → IsRight nodes guess
+found-right {by_id} {nodes} all id None e = tt
+found-right {by_id} {nodes} all id (Some guess) e =
+    let found : Some guess.now ≡ find (λ (node : NodeLine). node.id == id) nodes = ap option_copied e ∙ all.finds id in
+    let same : guess.now.id ≡ id = find-passes nodes id guess.now found in
+    ap (λ k. find (λ (node : NodeLine). node.id == k) nodes) same ∙ sym found

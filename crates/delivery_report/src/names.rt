@@ -1,9 +1,11 @@
 //! The names of nodes.
 
-ghost use Rattle.std.specs.Prelude.{◌≡◌, ◌==◌, ◌++◌, find, IfOk, OnOk};
+ghost use Rattle.std.specs.Prelude.{◌≡◌, ◌<◌, ◌^◌, ◌==◌, ◌++◌, find, All, IfOk, OnOk};
 ghost use Rattle.std.specs.Option.{option_copied};
 ghost use Rattle.scenario_reader.specs.declared.node.NodeLine.{NodeLine as PlainNode};
 ghost use Rattle.delivery_report.specs.Answers.{name_of, names_of};
+ghost use Rattle.delivery_report.specs.declared.names.TheConstants.{GUESS_BITS};
+ghost use Rattle.delivery_report.specs.Names.{FindsAll, IsRight};
 
 use ring_math::{Id, OutOfMemory};
 use scenario_reader::NodeLine;
@@ -12,23 +14,29 @@ use std::collections::BTreeMap;
 use std::marker::Model;
 use text_writer::Text;
 
+/// How many of its first bits an identifier is guessed by.
+const GUESS_BITS: u32 = 10;
+
 /// The nodes of a scenario, to be found by their identifiers.
 #[derive(Drop)]
 pub struct Names<'a> {
     nodes: &'a [NodeLine],
     by_id: BTreeMap<u128, &'a NodeLine>,
+    /// For each value of the first bits a node whose identifier begins with it, if there is one. Mostly it is the right one, and
+    /// it is looked at before it is taken, so that few are sought in the map.
+    guesses: Vec<Option<&'a NodeLine>>,
 }
 
 impl<'a> Model for Names<'a> {
-    ghost use Rattle.std.specs.Prelude.{List};
+    ghost use Rattle.std.specs.Prelude.{List, All};
     ghost use Rattle.scenario_reader.specs.declared.node.NodeLine.{NodeLine};
-    ghost use Rattle.delivery_report.specs.Names.{FindsAll};
+    ghost use Rattle.delivery_report.specs.Names.{FindsAll, IsRight};
 
     ghost Value = { List NodeLine };
 
     ghost view = { λ a. a.nodes.now };
 
-    ghost invariant = { λ a. FindsAll a.by_id a.nodes.now };
+    ghost invariant = { λ a. FindsAll a.by_id a.nodes.now × All (IsRight a.nodes.now) a.guesses.items };
 }
 
 impl<'a> Names<'a> {
@@ -36,19 +44,22 @@ impl<'a> Names<'a> {
     pub fn of(alloc: Global, nodes: &'a [NodeLine]) -> Result<Names<'a>, OutOfMemory>
         ensures { IfOk result (λ names. names ≡ nodes.now) }
     {
-        let mut by_id = BTreeMap::new(alloc);
-        for node in nodes {
-            if !by_id.contains_key(&node.id.0) {
-                by_id.insert(node.id.0, node)?;
-            }
-        }
-        Ok(Names { nodes, by_id })
+        let by_id = first_of_each(alloc, nodes)?;
+        let guesses = guesses_of(alloc, nodes, &by_id)?;
+        Ok(Names {
+            nodes,
+            by_id,
+            guesses,
+        })
     }
 
     fn node(&self, id: Id) -> Option<&'a NodeLine>
         ensures { option_copied result ≡ find (λ (node : PlainNode). node.id == id) self.now }
     {
-        self.by_id.get(&id.0).copied()
+        match self.guesses.get(guess_of(id)) {
+            Some(Some(node)) if node.id == id => Some(*node),
+            _ => self.by_id.get(&id.0).copied(),
+        }
     }
 
     /// Writes a node's name; of an identifier that is no node's, the 32 digits. The only error is that memory was refused.
@@ -79,4 +90,43 @@ impl<'a> Names<'a> {
         }
         Ok(())
     }
+}
+
+/// The first node with each identifier.
+fn first_of_each(
+    alloc: Global,
+    nodes: &[NodeLine],
+) -> Result<BTreeMap<u128, &NodeLine>, OutOfMemory>
+    ensures { IfOk result (λ by_id. FindsAll by_id nodes.now) }
+{
+    let mut by_id = BTreeMap::new(alloc);
+    for node in nodes {
+        if !by_id.contains_key(&node.id.0) {
+            by_id.insert(node.id.0, node)?;
+        }
+    }
+    Ok(by_id)
+}
+
+/// Which guess an identifier goes by.
+fn guess_of(id: Id) -> usize
+    ensures { result < 2 ^ GUESS_BITS }
+{
+    (id.0 >> (u128::BITS - GUESS_BITS)) as usize
+}
+
+/// The guesses for these nodes, the first of which with each identifier are known: of those that begin alike the last is guessed.
+fn guesses_of<'a>(
+    alloc: Global,
+    nodes: &[NodeLine],
+    by_id: &BTreeMap<u128, &'a NodeLine>,
+) -> Result<Vec<Option<&'a NodeLine>>, OutOfMemory>
+    requires { FindsAll by_id.now nodes.now }
+    ensures { IfOk result (λ guesses. All (IsRight nodes.now) guesses.items) }
+{
+    let mut guesses = vec![in alloc; None; 1 << GUESS_BITS]?;
+    for node in nodes {
+        guesses[guess_of(node.id)] = by_id.get(&node.id.0).copied();
+    }
+    Ok(guesses)
 }

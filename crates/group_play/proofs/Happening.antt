@@ -1,6 +1,7 @@
 -- A play to which one more event happened.
 use Rattle.std.proofs.Common.{◌≡◌, ◌<◌, ◌≤◌, ◌+◌, ℕ, zero, suc, nat_lt, cond, Bool, true, false, Option, Some, None, List, [], ◌∷◌, ◌++◌, map, length}
-use Rattle.std.proofs.Common.{refl, sym, ap, subst, ◌∙◌, arith, Contains}
+use Rattle.std.proofs.Common.{refl, sym, ap, subst, ◌∙◌, arith, Contains, drop, get_or}
+use Rattle.std.proofs.lemmas.List.{drop_more}
 use Rattle.std.proofs.lemmas.Bool.Decides.{nat_tests}
 use Rattle.std.proofs.lemmas.List.Elements.{All-push, All-weaker}
 use Rattle.overlay_rules.specs.Record.{Setting, World}
@@ -182,6 +183,13 @@ pub record IsPlayedTo (r : Recorded) (all left : List GroupAction) (es : List Gr
 pub played_at_start : (r : Recorded) (all : List GroupAction) (es : List GroupEntry) → AreActionsFrom r.nodes 0 all → es ≡ [] → IsPlayedTo r all all es
 played_at_start r all es may none =
     subst (IsPlayedTo r all all) (sym none) (record { commands = 0; may = may; newest = λ k d l. absurd (omega arith); ends = refl })
+
+-- the next action is the first of those that are left
+pub played_here : (r : Recorded) (all : List GroupAction) (es : List GroupEntry) (i : ℕ) (a : GroupAction) → i < length all → a ≡ get_or all i a →
+    IsPlayedTo r all (drop i all) es → IsPlayedTo r all (a ∷ drop (i + 1) all) es
+played_here r all es i a lt is h =
+    subst (λ (rest : List GroupAction). IsPlayedTo r all rest es)
+    (drop_more all i a lt ∙ ap (λ (b : GroupAction). b ∷ drop (i + 1) all) (sym is)) h
 
 pub can_act : (r : Recorded) (all left : List GroupAction) (a : GroupAction) (es : List GroupEntry) → IsPlayedTo r all (a ∷ left) es →
     CanAct r.nodes es a.what

@@ -5,11 +5,18 @@
 //! in short loops, none of which needs what another of its turns looks at: then much is waited for at once. No promise rests on this.
 
 use crate::seats::Seats;
-use ring_math::{Id, cw};
+use ring_math::{Id, OutOfMemory, cw};
 use scribe_core::GroupSent;
+use std::alloc::Global;
 
 /// How many messages are looked at together.
 const TOGETHER: usize = 16;
+
+/// How many bits of a number that is spread choose its hint.
+const HINT_BITS: u32 = 16;
+
+/// 2^64 divided by the golden ratio: what is multiplied by it is spread over the high bits (Knuth, multiplicative hashing).
+const SPREAD: u64 = 0x9e37_79b9_7f4a_7c15;
 
 /// To whom a message comes, the key of its group, and where the receiver's seat may stand.
 #[derive(Clone, Copy)]
@@ -22,13 +29,23 @@ struct Sight {
     number: u64,
 }
 
-/// What was seen of the messages that were looked at last.
-#[derive(Clone, Copy)]
+/// What was seen of the messages that were looked at last, and hints of where seats stand.
+#[derive(Drop)]
 pub(crate) struct Ahead {
     /// The first of these messages, and the first behind them.
     from: usize,
     upto: usize,
     sights: [Sight; TOGETHER],
+    /// For each value of so many bits the place of the seat that was last looked up by a number that is spread to it. To look
+    /// one up takes a hash, and to see that a hint is right takes none.
+    hints: Vec<u32>,
+}
+
+/// Which hint a number goes by.
+fn hint_of(number: u128) -> usize {
+    let low = (number & u128::from(u64::MAX)) as u64;
+    let folded = low ^ (number >> u64::BITS) as u64;
+    (folded.wrapping_mul(SPREAD) >> (u64::BITS - HINT_BITS)) as usize
 }
 
 impl Sight {
@@ -42,6 +59,11 @@ impl Sight {
         }
     }
 
+    /// The number by which the seat is looked up.
+    fn slot(&self) -> u128 {
+        cw(self.node, self.key)
+    }
+
     /// Whether a seat that is looked up as the message's would be stands where it is guessed.
     fn is_right(&self, seats: &Seats) -> bool {
         let Some(place) = self.guess else {
@@ -51,6 +73,20 @@ impl Sight {
             // Both are looked at, whatever the first says.
             Some(seat) => (seat.node == self.node) & (seat.key == self.key),
             None => false,
+        }
+    }
+
+    /// Looks the seat up, and leaves a hint of where it stands.
+    fn look_up(&mut self, hints: &mut [u32], seats: &Seats) {
+        self.guess = seats.last.get(&self.slot()).copied();
+        if !self.is_right(seats) {
+            self.guess = None;
+        }
+        if let Some(place) = self.guess
+            && let Ok(place) = u32::try_from(place)
+            && let Some(hint) = hints.get_mut(hint_of(self.slot()))
+        {
+            *hint = place;
         }
     }
 
@@ -72,12 +108,13 @@ impl Sight {
 }
 
 impl Ahead {
-    /// Nothing was looked at yet.
-    pub(crate) fn new() -> Ahead {
+    /// Nothing was looked at yet. It takes no memory.
+    pub(crate) fn new(alloc: Global) -> Ahead {
         Ahead {
             from: 0,
             upto: 0,
             sights: [Sight::none(); TOGETHER],
+            hints: Vec::new(alloc),
         }
     }
 
@@ -90,32 +127,36 @@ impl Ahead {
         keys: &[Id],
         sent: &[GroupSent],
         seats: &Seats,
-    ) -> Option<usize> {
+    ) -> Result<Option<usize>, OutOfMemory> {
         if message < self.from || self.upto <= message {
-            let keys = keys.get(message..)?;
-            let sent = sent.get(message..)?;
+            self.hints.resize(1 << HINT_BITS, 0)?;
+            let (Some(keys), Some(sent)) = (keys.get(message..), sent.get(message..)) else {
+                return Ok(None);
+            };
             let count = TOGETHER.min(left as usize).min(sent.len());
             self.from = message;
             self.upto = message.saturating_add(count);
-            look(self.sights.get_mut(..count)?, keys, sent, seats);
+            if let Some(sights) = self.sights.get_mut(..count) {
+                look(sights, &mut self.hints, keys, sent, seats);
+            }
         }
-        self.sights[message.saturating_sub(self.from) % TOGETHER].guess
+        Ok(self.sights[message.saturating_sub(self.from) % TOGETHER].guess)
     }
 }
 
 /// It is a call of its own, since what is seen would else be taken for unused, and not be looked at.
 #[inline(never)]
-fn look(sights: &mut [Sight], keys: &[Id], sent: &[GroupSent], seats: &Seats) {
+fn look(sights: &mut [Sight], hints: &mut [u32], keys: &[Id], sent: &[GroupSent], seats: &Seats) {
     for ((sight, key), sent) in sights.iter_mut().zip(keys).zip(sent) {
         sight.node = sent.receiver;
         sight.key = *key;
     }
     for sight in sights.iter_mut() {
-        sight.guess = seats.last.get(&cw(sight.node, sight.key)).copied();
+        sight.guess = hints.get(hint_of(sight.slot())).map(|hint| *hint as usize);
     }
     for sight in sights.iter_mut() {
         if !sight.is_right(seats) {
-            sight.guess = None;
+            sight.look_up(hints, seats);
         }
     }
     for sight in sights.iter_mut() {

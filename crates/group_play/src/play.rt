@@ -49,8 +49,9 @@ fn play_actions(
 {
     world.entries();
     let mut play = Play::new(alloc);
+    let mut ahead = Ahead::new(alloc);
     for action in actions {
-        play.act(alloc, world, &action.what)?;
+        play.act(alloc, world, &mut ahead, &action.what)?;
     }
     Ok(play.writer.finish())
 }
@@ -79,7 +80,13 @@ impl Play {
     }
 
     /// Does what an action says.
-    fn act(&mut self, alloc: Global, world: &World, what: &GroupWhat) -> Result<(), OutOfMemory>
+    fn act(
+        &mut self,
+        alloc: Global,
+        world: &World,
+        ahead: &mut Ahead,
+        what: &GroupWhat,
+    ) -> Result<(), OutOfMemory>
         requires plays { IsPlay world.now self.old }
         requires legal { IsRecord (setting_of world.now) world.now.entries }
         requires may { CanAct world.now.nodes self.old.writer.entries what.now }
@@ -93,7 +100,7 @@ impl Play {
                 group,
                 command,
             } => self.command(alloc, world, *number, *node, group, command),
-            GroupWhat::Settle(count) => self.settle(alloc, world, *count),
+            GroupWhat::Settle(count) => self.settle(alloc, world, ahead, *count),
             GroupWhat::Deliver(message) => self.deliver_once(alloc, world, *message),
         }
     }
@@ -135,17 +142,22 @@ impl Play {
     }
 
     /// So many times, the oldest message that was never delivered is delivered.
-    fn settle(&mut self, alloc: Global, world: &World, count: u32) -> Result<(), OutOfMemory>
+    fn settle(
+        &mut self,
+        alloc: Global,
+        world: &World,
+        ahead: &mut Ahead,
+        count: u32,
+    ) -> Result<(), OutOfMemory>
         requires plays { IsPlay world.now self.old }
         requires legal { IsRecord (setting_of world.now) world.now.entries }
         ensures plays { OnOk result (IsPlay world.now self.new) }
         ensures entries { OnOk result (self.new.writer.entries ≡ settled (world_of world.now) count self.old.writer.entries) }
     {
-        let mut ahead = Ahead::new();
         for turn in 0..count {
             match self.messages.oldest() {
                 Some(message) => {
-                    let guess = self.guess(&mut ahead, message, count - turn);
+                    let guess = self.guess(ahead, message, count - turn)?;
                     self.deliver(alloc, world, message, guess)?;
                 }
                 None => return Ok(()),
@@ -155,7 +167,12 @@ impl Play {
     }
 
     /// Where the seat may stand to which a message comes, the first of so many that are to be delivered.
-    fn guess(&self, ahead: &mut Ahead, message: usize, left: u32) -> Option<usize> {
+    fn guess(
+        &self,
+        ahead: &mut Ahead,
+        message: usize,
+        left: u32,
+    ) -> Result<Option<usize>, OutOfMemory> {
         ahead.guess(
             message,
             left,

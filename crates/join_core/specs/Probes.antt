@@ -49,6 +49,26 @@ probe_step_of (Asking b n) from a leafs l r = Dropped
 probe_step_of (Leasing b n x y from_left from_right) from a leafs l r = Dropped
 probe_step_of (Done b) from a leafs l r = Dropped
 
+-- another than the sender has not answered
+abbrev pub is_awaited_besides : Id → Id × Bool → Bool
+is_awaited_besides from p = not (p.0 == from) && not p.1
+
+-- an answer after which it goes on as before: each of these leaves was probed, and another has not answered
+abbrev pub goes_on_with : Joiner → Id → List Id → Bool
+goes_on_with (Probing b n probed) from leafs = list_all (was_probed probed) leafs && list_any (is_awaited_besides from) probed
+goes_on_with (Waiting b) from leafs = false
+goes_on_with (Asking b n) from leafs = false
+goes_on_with (Leasing b n l r from_left from_right) from leafs = false
+goes_on_with (Done b) from leafs = false
+
+-- the sender has answered
+abbrev pub heard : Id → Joiner → Joiner
+heard from (Probing b n probed) = Probing b n (map (answered_by from) probed)
+heard from (Waiting b) = Waiting b
+heard from (Asking b n) = Asking b n
+heard from (Leasing b n l r from_left from_right) = Leasing b n l r from_left from_right
+heard from (Done b) = Done b
+
 -- who was probed so far
 abbrev pub probed_of : Joiner → List (Id × Bool)
 probed_of (Probing b n probed) = probed

@@ -3,7 +3,7 @@
 ghost use Rattle.std.specs.Prelude.{◌≡◌, ◌<◌, IfOk, OnErr, IfSome, None};
 ghost use Rattle.join_core.specs.Awaited.{is_asking, is_awaited};
 ghost use Rattle.join_core.specs.Joining.{attempt_of, begin_of, after_begin};
-ghost use Rattle.join_core.specs.Probes.{reply_of, after_reply, probe_step_of, after_probe_reply};
+ghost use Rattle.join_core.specs.Probes.{reply_of, after_reply, probe_step_of, after_probe_reply, goes_on_with, heard as heard_of};
 ghost use Rattle.join_core.specs.Leases.{grant_step_of, after_grant, is_granted, finished_of, after_finish};
 ghost use Rattle.join_core.specs.Ends.{halt, refused_of, denied_of, given_up_of, after_halt};
 
@@ -150,6 +150,29 @@ impl Joiner {
                 })
             }
             _ => Ok(ProbeStep::Dropped),
+        }
+    }
+
+    /// Whether it only goes on after an awaited answer of this node, with the node's leaves once its members were learnt: each
+    /// of them was probed, and another than the sender has not answered. What `on_probe_reply` would give then, `Probe` with no
+    /// leaf, is said by the lemma `goes-on`.
+    pub fn goes_on_with(&self, sender: Id, leafs: &[Id]) -> bool
+        ensures { result ≡ goes_on_with self.now sender leafs.now }
+    {
+        match self {
+            Joiner::Probing { probed, .. } => {
+                probed.contains_all(leafs) && probed.awaits_besides(sender)
+            }
+            _ => false,
+        }
+    }
+
+    /// Where it is Probing, this node has answered. It takes no memory.
+    pub fn hear(&mut self, sender: Id)
+        ensures { self.new ≡ heard_of sender self.old }
+    {
+        if let Joiner::Probing { probed, .. } = self {
+            probed.hear(sender);
         }
     }
 

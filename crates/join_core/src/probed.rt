@@ -1,9 +1,9 @@
 //! Who was probed.
 
 ghost use Rattle.std.specs.Prelude.{◌≡◌, IfOk, map};
-ghost use Rattle.std.specs.List.{list_any};
+ghost use Rattle.std.specs.List.{list_all, list_any};
 ghost use Rattle.overlay_rules.specs.Joining.{unanswered, is_unanswered, was_probed, answered_by};
-ghost use Rattle.join_core.specs.Probes.{new_of, probed_with, are_answered};
+ghost use Rattle.join_core.specs.Probes.{new_of, probed_with, are_answered, is_awaited_besides};
 
 use ring_math::{Id, Ids, IdsBuilder, OutOfMemory};
 use std::alloc::Global;
@@ -65,7 +65,8 @@ impl Probed {
         self.items.iter().any(|probe| probe.0 == id)
     }
 
-    /// Whether this node was probed. It is looked for at a place first.
+    /// Whether this node was probed. It is looked for at a place first: leaves that stay were probed in leaf order, so each
+    /// stands at its own place there, unless others came between.
     fn contains_by(&self, place: usize, id: Id) -> bool
         ensures { result ≡ was_probed self.now id }
     {
@@ -82,6 +83,36 @@ impl Probed {
         self.items.iter().all(|probe| probe.1)
     }
 
+    /// Whether each of these was probed.
+    pub fn contains_all(&self, leafs: &[Id]) -> bool
+        ensures { result ≡ list_all (was_probed self.now) leafs.now }
+    {
+        for place in 0..leafs.len() {
+            let leaf = leafs[place];
+            if !self.contains_by(place, leaf) {
+                return false;
+            }
+        }
+        true
+    }
+
+    /// Whether another than this node has not answered.
+    pub fn awaits_besides(&self, sender: Id) -> bool
+        ensures { result ≡ list_any (is_awaited_besides sender) self.now }
+    {
+        self.items.iter().any(|probe| probe.0 != sender && !probe.1)
+    }
+
+    /// This node has answered. It takes no memory.
+    pub fn hear(&mut self, sender: Id)
+        ensures { self.new ≡ map (answered_by sender) self.old }
+    {
+        for place in 0..self.items.len() {
+            let is_senders = self.items[place].0 == sender;
+            self.items[place].1 |= is_senders;
+        }
+    }
+
     /// Those of the leaves that were not probed, in their order.
     pub fn not_probed(&self, alloc: Global, leafs: &Ids) -> Result<Ids, OutOfMemory>
         ensures { IfOk result (λ more. more ≡ new_of self.now leafs.now) }
@@ -89,7 +120,6 @@ impl Probed {
         let leafs = leafs.as_slice();
         let mut more = IdsBuilder::new();
         for (place, leaf) in leafs.iter().enumerate() {
-            // Leaves that stay were probed in leaf order, so each stands at its own place there, unless others came between.
             if !self.contains_by(place, *leaf) {
                 more.push(*leaf);
             }

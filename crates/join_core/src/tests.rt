@@ -93,6 +93,23 @@ fn a_leaf_that_a_reply_tells_of_is_probed_too(rt: HostRuntime) -> Result<(), Fai
     Ok(())
 }
 
+// 30~ and 50~ are probed: after an answer of 30~ it only goes on if no other leaf is named, after one of 50~ then no more.
+#[test]
+fn it_goes_on_while_another_is_awaited(rt: HostRuntime) -> Result<(), Fail> {
+    let alloc = rt.alloc();
+    let mut joiner = Joiner::Waiting { attempt: 1 };
+    joiner.begin(7);
+    assert!(rt; !joiner.goes_on_with(id(0x30), &[]));
+    let leafs = [id(0x50), id(0x30)];
+    joiner.on_reply(alloc, 1, &list(alloc, &[0x50, 0x30])?)?;
+    assert!(rt; joiner.goes_on_with(id(0x30), &leafs) && joiner.goes_on_with(id(0x50), &leafs));
+    assert!(rt; !joiner.goes_on_with(id(0x30), &[id(0x50), id(0x40), id(0x30)]));
+    joiner.hear(id(0x30));
+    assert!(rt; !joiner.awaits(id(0x30), 1) && joiner.awaits(id(0x50), 1));
+    assert!(rt; !joiner.goes_on_with(id(0x50), &leafs));
+    Ok(())
+}
+
 #[test]
 fn both_leases_make_it_ready(rt: HostRuntime) -> Result<(), Fail> {
     let mut joiner = leasing(rt.alloc())?;

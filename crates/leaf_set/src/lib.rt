@@ -2,7 +2,7 @@
 //! [`LEAVES_PER_SIDE`](ring_math::LEAVES_PER_SIDE) of each (Pastry, Rowstron and Druschel 2001).
 #![tactic(auto)]
 
-ghost use Rattle.std.specs.Prelude.{◌≡◌, ◌≤◌, ◌&&◌, ◌||◌, ◌++◌, not, [], List, Contains, MatchOption, length, slice_get};
+ghost use Rattle.std.specs.Prelude.{◌≡◌, ◌≤◌, ◌&&◌, ◌||◌, ◌++◌, not, [], IsTrue, List, Contains, MatchOption, length, slice_get};
 ghost use Rattle.ring_math.specs.Names.{Id};
 ghost use Rattle.ring_math.specs.Members.{IsClosest};
 ghost use Rattle.ring_math.specs.Sides.{learn as learn_of};
@@ -13,6 +13,7 @@ mod side;
 
 use ring_math::{Direction, Id, IdsBuilder, nearer_of};
 use side::Side;
+pub use side::append;
 use std::marker::Model;
 
 /// Two arrays of identifiers by distance, seen from a node that is in neither.
@@ -69,8 +70,10 @@ impl LeafSet {
         }
     }
 
-    fn has(&self, id: Id) -> bool
-        ensures { result ≡ holds self.now id }
+    /// Whether an identifier stands on a side. One that does was learnt before.
+    pub fn holds(&self, id: Id) -> bool
+        ensures held { result ≡ holds self.now id }
+        ensures learnt { IsTrue result → (known : List Id) → StandsFor self.now known → learn_of self.now.me known id ≡ known }
     {
         self.right.holds(self.me, Direction::Clockwise, id)
             || self.left.holds(self.me, Direction::Counterclockwise, id)
@@ -84,7 +87,7 @@ impl LeafSet {
         ensures answer { result ≡ not (holds self.old id) && holds self.new id }
     {
         // Whom neither side reaches changes neither: most of a large ring, so it is asked before the sides are searched.
-        if id == self.me || !self.in_range(id) || self.has(id) {
+        if id == self.me || !self.in_range(id) || self.holds(id) {
             return false;
         }
         let on_right = self.right.place(self.me, Direction::Clockwise, id);

@@ -1,6 +1,6 @@
 //! One side of a leaf set: the nearest [`LEAVES_PER_SIDE`] identifiers, going one way round the circle.
 
-ghost use Rattle.std.specs.Prelude.{◌≡◌, ◌<◌, ◌≤◌, ◌+◌, ◌-◌, ◌^◌, ◌++◌, All, ◌∷◌, not, filter, [], ℕ, List, length, take, nat_lt, false, slice_get};
+ghost use Rattle.std.specs.Prelude.{◌≡◌, ◌<◌, ◌≤◌, ◌+◌, ◌-◌, ◌^◌, ◌++◌, All, ◌∷◌, not, filter, [], ℕ, List, length, take, nat_le, nat_lt, false, slice_get};
 ghost use Rattle.std.specs.Prelude.{MatchOption, Contains};
 ghost use Rattle.std.specs.List.{position_or_len};
 ghost use Rattle.ring_math.specs.Direction.{far, reaches as reaches_of};
@@ -43,7 +43,7 @@ fn put_in(ids: &mut [Id; LEAVES_PER_SIDE], place: usize, id: Id)
 }
 
 /// Appends an identifier to a list that has room for it.
-fn append(out: &mut IdsBuilder, id: Id)
+pub fn append(out: &mut IdsBuilder, id: Id)
     requires { length out.old < MOST_MEMBERS }
     ensures { out.new ≡ out.old ++ id ∷ [] }
 {
@@ -109,12 +109,33 @@ impl Side {
         self.as_slice().iter().any(|other| *other == id)
     }
 
-    /// Whether it is there. Nobody is whom the side doesn't reach, so it is not sought there.
+    /// Whether it is there.
     pub(crate) fn holds(&self, me: Id, direction: Direction, id: Id) -> bool
         requires { Rises (far me direction) self.now }
         ensures { result ≡ is_in self.now id }
     {
-        self.reaches(me, direction, id) && self.has(id)
+        self.holds_within(self.reach(me, direction), me, direction, id)
+    }
+
+    /// Whether it is there, where it is known how far the side reaches. Nobody is whom it doesn't reach, so it is not sought there.
+    fn holds_within(&self, reach: u128, me: Id, direction: Direction, id: Id) -> bool
+        requires rises { Rises (far me direction) self.now }
+        requires limit { length self.now ≤ LEAVES_PER_SIDE }
+        requires reach { (key : ℕ) → far me direction key < 2 ^ 128 → nat_le (far me direction key) reach ≡ reaches_of me direction self.now key }
+        ensures { result ≡ is_in self.now id }
+    {
+        distance(me, direction, id) <= reach && self.has(id)
+    }
+
+    /// How far the side reaches: as far as the last, and everywhere where there are fewer than [`LEAVES_PER_SIDE`].
+    fn reach(&self, me: Id, direction: Direction) -> u128
+        ensures limit { length self.now ≤ LEAVES_PER_SIDE }
+        ensures reach { (key : ℕ) → far me direction key < 2 ^ 128 → nat_le (far me direction key) result ≡ reaches_of me direction self.now key }
+    {
+        match self.as_slice().get(LEAVES_PER_SIDE - 1) {
+            Some(last) => distance(me, direction, *last),
+            None => u128::MAX,
+        }
     }
 
     /// Whether there are fewer than [`LEAVES_PER_SIDE`], or the key is no farther than the last.
@@ -122,9 +143,7 @@ impl Side {
         ensures limit { length self.now ≤ LEAVES_PER_SIDE }
         ensures reaches { result ≡ reaches_of me direction self.now key }
     {
-        let ids = self.as_slice();
-        ids.len() < LEAVES_PER_SIDE
-            || distance(me, direction, key) <= distance(me, direction, ids[LEAVES_PER_SIDE - 1])
+        distance(me, direction, key) <= self.reach(me, direction)
     }
 
     /// The one nearest to the key: one of the two between which the key lies.
@@ -195,8 +214,9 @@ impl Side {
         requires rises { Rises (far me direction) other.now }
         ensures { out.new ≡ out.old ++ filter (λ y. not (is_in other.now y)) self.now }
     {
+        let reach = other.reach(me, direction);
         for id in self.as_slice() {
-            if !other.holds(me, direction, *id) {
+            if !other.holds_within(reach, me, direction, *id) {
                 append(out, *id);
             }
         }
@@ -221,9 +241,14 @@ impl Side {
     /// Puts an identifier in its place, behind those as far as it, where it is among the first
     /// [`LEAVES_PER_SIDE`]. It answers whether it is.
     pub(crate) fn place(&mut self, me: Id, direction: Direction, id: Id) -> bool
+        requires { Rises (far me direction) self.old }
         ensures placed { self.new ≡ take LEAVES_PER_SIDE (placed (far me direction) id self.old) }
         ensures answer { is_in self.old id ≡ false → result ≡ is_in self.new id }
     {
+        // Who is new belongs on one side only in most rings.
+        if !self.reaches(me, direction, id) {
+            return false;
+        }
         let place = self.place_of(me, direction, id);
         if place == LEAVES_PER_SIDE {
             return false;

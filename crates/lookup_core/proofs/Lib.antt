@@ -1,4 +1,5 @@
 pub mod Learning
+mod Strangers
 mod Search
 pub mod Nearest
 pub mod Hops

@@ -1,10 +1,10 @@
 -- What a node's knowledge is seen as, and the lists that it stands for.
-use Rattle.std.specs.Prelude.{◌≡◌, ◌<◌, ◌^◌, if◌then◌else◌, Option, Some, None, Bool, not, ◌&&◌, List, Contains}
+use Rattle.std.specs.Prelude.{◌≡◌, ◌<◌, ◌^◌, if◌then◌else◌, Option, Some, None, Bool, not, ◌&&◌, ◌||◌, List, Contains, filter}
 use Rattle.ring_math.specs.Names.{Id, Key}
 use Rattle.ring_math.specs.Ring.{is_nearer}
 use Rattle.ring_math.specs.Members.{InRing}
 use Rattle.leaf_set.specs.Leaves.{Leaves, holds, StandsFor as LeafSetStandsFor}
-use Rattle.route_table.specs.Entries.{Table, StandsFor as TableStandsFor}
+use Rattle.route_table.specs.Entries.{Table, is_held, StandsFor as TableStandsFor}
 
 pub record Kept : Type 0 where
   pub leafs : Leaves
@@ -19,6 +19,14 @@ pub record StandsFor (k : Kept) (known : List Id) : Type 0 where
 -- y was on neither side and now is on one
 abbrev pub is_taken : Leaves → Leaves → Id → Bool
 is_taken old new y = not (holds old y) && holds new y
+
+-- y is an entry or a leaf
+abbrev pub is_kept : Kept → Id → Bool
+is_kept k y = is_held k.table y || holds k.leafs y
+
+-- those of a list that are neither
+abbrev pub strangers : Kept → List Id → List Id
+strangers k ys = filter (λ y. not (is_kept k y)) ys
 
 -- the node and those that it knows are identifiers, and it is not among them
 pub record Others (me : Id) (known : List Id) : Type 0 where

@@ -1,13 +1,13 @@
 //! What a node knows of others: its leaf set and its prefix table.
 
-ghost use Rattle.std.specs.Prelude.{◌≡◌, List, [], ◌||◌, IsOk, IfOk};
+ghost use Rattle.std.specs.Prelude.{◌≡◌, ◌≤◌, List, [], ◌||◌, IsTrue, IsOk, IfOk, length};
 ghost use Rattle.ring_math.specs.Names.{Id};
 ghost use Rattle.ring_math.specs.Sides.{learn as learn_of, learn_all as learn_all_of};
 ghost use Rattle.route_table.specs.Entries.{is_new};
-ghost use Rattle.lookup_core.specs.Kept.{StandsFor, is_taken};
+ghost use Rattle.lookup_core.specs.Kept.{StandsFor, is_taken, is_kept, strangers as strangers_of};
 
-use leaf_set::LeafSet;
-use ring_math::{Id, OutOfMemory};
+use leaf_set::{LeafSet, append};
+use ring_math::{Id, IdsBuilder, MOST_MEMBERS, OutOfMemory};
 use route_table::RouteTable;
 use std::alloc::Global;
 use std::marker::Model;
@@ -95,6 +95,30 @@ impl Knowledge {
         ensures answer { IfOk result (λ changed. changed ≡ (is_taken self.old.leafs self.new.leafs id || is_new self.old.table id)) }
     {
         Ok(self.take_in(id))
+    }
+
+    /// Whether an identifier is an entry or a leaf. One that is was learnt before.
+    fn keeps(&self, id: Id) -> bool
+        ensures kept { result ≡ is_kept self.now id }
+        ensures learnt { IsTrue result → (known : List Id) → StandsFor self.now known → learn_of self.now.leafs.me known id ≡ known }
+    {
+        self.table.holds(id) || self.leafs.holds(id)
+    }
+
+    /// Those of these that are neither entries nor leaves, in order. The others were learnt before, so who learns these learns all.
+    pub fn strangers(&self, ids: &[Id]) -> IdsBuilder
+        requires { length ids.now ≤ MOST_MEMBERS }
+        ensures strangers { result ≡ strangers_of self.now ids.now }
+        ensures learnt { (known : List Id) → StandsFor self.now known →
+            learn_all_of self.now.leafs.me known result ≡ learn_all_of self.now.leafs.me known ids.now }
+    {
+        let mut strangers = IdsBuilder::new();
+        for id in ids {
+            if !self.keeps(*id) {
+                append(&mut strangers, *id);
+            }
+        }
+        strangers
     }
 
     /// Learns these in order. It takes no memory.

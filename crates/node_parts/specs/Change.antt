@@ -24,11 +24,12 @@ use Rattle.node_parts.specs.declared.change.PastChange.{PastChange}
 use Rattle.node_parts.specs.declared.change.PastChange.TheVariants as past
 use Rattle.node_parts.specs.declared.change.Wait.{Wait}
 use Rattle.node_parts.specs.declared.change.Wait.TheVariants as wait
-use Rattle.node_parts.specs.Seats.{phase_to, granted_phase}
+use Rattle.node_parts.specs.Seats.{phase_to, heard_phase, granted_phase}
 
 abbrev pub phase_after : SeatChange → Phase → Phase
 phase_after seat.Keep p = p
 phase_after (seat.To joiner) p = phase_to joiner.value p
+phase_after (seat.Heard from) p = heard_phase from p
 phase_after (seat.Granted given) p = granted_phase given.value p
 phase_after (seat.Ready a l r) p = Ready a l r
 

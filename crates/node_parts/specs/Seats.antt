@@ -1,7 +1,8 @@
 -- The phase that a node's joiner, what it takes over and its links show.
-use Rattle.std.specs.Prelude.{Option, Some, None}
+use Rattle.std.specs.Prelude.{Option, Some, None, map}
 use Rattle.ring_math.specs.Names.{Id}
 use Rattle.coverage.specs.GapFiles.{Lists}
+use Rattle.overlay_rules.specs.Joining.{answered_by}
 use Rattle.overlay_rules.specs.State.{Phase}
 use Rattle.overlay_rules.specs.State as phase
 use Rattle.replica_handover.specs.Taken.{Taken, kept_or}
@@ -50,6 +51,14 @@ phase_to (Asking a n) p = phase.Asking a n
 phase_to (Probing a n probed) p = phase.Probing a n probed
 phase_to (Leasing a n l r on_left on_right) p = phase.Leasing a n l r None None
 phase_to (Done a) p = p
+
+-- one that was probed has answered
+abbrev pub heard_phase : Id → Phase → Phase
+heard_phase from (phase.Probing a n probed) = phase.Probing a n (map (answered_by from) probed)
+heard_phase from (phase.Waiting a) = phase.Waiting a
+heard_phase from (phase.Asking a n) = phase.Asking a n
+heard_phase from (phase.Leasing a n l r from_left from_right) = phase.Leasing a n l r from_left from_right
+heard_phase from (phase.Ready a l r) = phase.Ready a l r
 
 -- what the sides pledge is kept, on each side that had pledged nothing
 abbrev pub granted_phase : Taken → Phase → Phase

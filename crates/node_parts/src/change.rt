@@ -15,6 +15,8 @@ pub enum SeatChange {
     Keep,
     /// A join begins, goes on or ends. Leases are asked for with no lists yet; of a join that is done nothing is changed.
     To(Box<Joiner>),
+    /// A join that probes goes on: this node has answered.
+    Heard(Id),
     /// What neighbours hand over is kept, on each side that had nothing.
     Granted(Box<Taking>),
     /// It has joined by this attempt, with these links.

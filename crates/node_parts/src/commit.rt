@@ -23,6 +23,7 @@ fn change_seat(seat: &mut Seat, change: SeatChange)
     match change {
         SeatChange::Keep => {}
         SeatChange::To(joiner) => seat.go_to(Box::into_inner(joiner)),
+        SeatChange::Heard(sender) => seat.hear(sender),
         SeatChange::Granted(given) => seat.grant(Box::into_inner(given)),
         SeatChange::Ready {
             attempt,

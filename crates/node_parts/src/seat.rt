@@ -3,7 +3,7 @@
 ghost use Rattle.std.specs.Prelude.{◌≡◌, IfOk};
 ghost use Rattle.overlay_rules.specs.State.{Waiting, Ready, is_ready};
 ghost use Rattle.join_core.specs.Joining.{joiner_of};
-ghost use Rattle.node_parts.specs.Seats.{links_in, taken_of, phase_to, granted_phase};
+ghost use Rattle.node_parts.specs.Seats.{links_in, taken_of, phase_to, heard_phase, granted_phase};
 
 use join_core::Joiner;
 use replica_handover::Taking;
@@ -122,6 +122,13 @@ impl Seat {
             left,
             right,
         };
+    }
+
+    /// Where it probes, this node has answered. It takes no memory.
+    pub fn hear(&mut self, sender: Id)
+        ensures { self.new ≡ heard_phase sender self.old }
+    {
+        self.joiner.hear(sender);
     }
 
     /// What the neighbours hand over is kept, on each side where nothing was kept before.

@@ -129,13 +129,20 @@ fn learnt(leafs: &LeafSet, ids: &[Id]) -> LeafSet
     leafs
 }
 
+/// The leaves of a leaf set in leaf order, in a list that takes no memory.
+pub fn leaves_in(leafs: &LeafSet) -> IdsBuilder
+    ensures { (known : List ℕ) → StandsFor leafs.now known → result ≡ leaves leafs.now.me known }
+{
+    let mut ids = IdsBuilder::new();
+    leafs.copy_to(&mut ids);
+    ids
+}
+
 /// The leaves of a leaf set in leaf order.
 pub fn leaves_of(alloc: Global, leafs: &LeafSet) -> Result<Ids, OutOfMemory>
     ensures { (known : List ℕ) → StandsFor leafs.now known → IfOk result (λ ids. ids ≡ leaves leafs.now.me known) }
 {
-    let mut ids = IdsBuilder::new();
-    leafs.copy_to(&mut ids);
-    ids.finish(alloc)
+    leaves_in(leafs).finish(alloc)
 }
 
 /// The first on the left; the node itself where it knows nobody.

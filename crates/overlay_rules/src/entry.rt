@@ -139,6 +139,7 @@ impl Entries {
     }
 
     /// The entry at a place.
+    #[inline(always)]
     pub fn at(&self, place: usize) -> EntryRef<'_>
         requires { place < length self.now }
         ensures { slice_get self.now place ≡ Some (entry_seen result) }

@@ -28,6 +28,7 @@ impl CompactEvent {
         }
     }
 
+    #[inline(always)]
     pub(crate) fn seen(&self) -> EventRef<'_>
         ensures { event_seen result ≡ event_kept self.now }
     {
@@ -88,7 +89,8 @@ impl Lists {
         });
     }
 
-    /// The entry at a place.
+    /// The entry at a place. It is inlined, since most who read a record look at one part of each entry alone.
+    #[inline(always)]
     pub(crate) fn at(&self, place: usize) -> EntryRef<'_>
         requires within { place < length self.now.entries.items }
         requires well { CutsWell self.now }
@@ -104,6 +106,7 @@ impl Lists {
     }
 
     /// Where what an entry sent and noted begins: at the ends of the entry before it.
+    #[inline(always)]
     fn starts(&self, place: usize) -> Starts
         requires { place < length self.now.entries.items }
         ensures sent { result.sent ≡ sent_start 0 self.now.entries.items place }
@@ -123,6 +126,7 @@ impl Lists {
 }
 
 /// The part of a list between two places.
+#[inline(always)]
 fn between<T>(items: &[T], start: usize, end: usize) -> &[T]
     requires order { start ≤ end }
     requires within { end ≤ length items.now }

@@ -23,6 +23,7 @@ use play_engine::ids_of;
 use ring_math::OutOfMemory;
 use script_report::play_script;
 use std::alloc::Global;
+use std::mem;
 
 /// Plays both parts of a script, and writes their reports into memory. The headline holds of the record of part one.
 fn prepare_script<T: Turnstile>(
@@ -36,6 +37,8 @@ fn prepare_script<T: Turnstile>(
     let scenario = script.scenario();
     let nodes = ids_of(alloc, scenario.nodes())?;
     headline_law(&nodes, scenario.founder(), &played.record.entries);
+    // It was told, and the program is about to end: then the system takes back all memory at once.
+    mem::forget(played.steps);
     Ok(Prepared {
         record: played.record,
         text: played.text,

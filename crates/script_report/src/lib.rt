@@ -1,8 +1,8 @@
 //! A script of groups, whole: its scenario played, its groups played over what that leaves, and the report of both.
 #![tactic(auto)]
 
-ghost use Rattle.std.specs.Prelude.{IfOk};
-ghost use Rattle.script_report.specs.Whole.{IsPlayedScript};
+ghost use Rattle.std.specs.Prelude.{◌≡◌, IfOk};
+ghost use Rattle.script_report.specs.Whole.{IsPlayedScript, steps_of};
 
 mod laws;
 
@@ -13,14 +13,16 @@ use group_report::put_groups;
 use outside::Turnstile;
 use overlay_rules::Record;
 use ring_math::OutOfMemory;
+use scribe_core::GroupRecord;
 use std::alloc::Global;
 use text_writer::Text;
 use wire_msg::Frame;
 
-/// The record of part one of a script, and the report of both parts.
+/// The records of both parts of a script, and their report.
 #[derive(Drop)]
 pub struct PlayedScript {
     pub record: Record,
+    pub steps: GroupRecord,
     pub text: Frame,
 }
 
@@ -31,7 +33,8 @@ pub fn play_script<T: Turnstile>(
     script: &GroupScript,
     turnstile: &T,
 ) -> Result<PlayedScript, OutOfMemory>
-    ensures { IfOk result (λ p. IsPlayedScript script.now p.record p.text) }
+    ensures played { IfOk result (λ p. IsPlayedScript script.now p.record p.text) }
+    ensures steps { IfOk result (λ p. p.steps ≡ steps_of script.now p.record.entries) }
 {
     let PlayedGroups { record, steps } = play_both(alloc, script, turnstile)?;
     let mut text = Text::new(alloc);
@@ -39,6 +42,7 @@ pub fn play_script<T: Turnstile>(
     put_groups(alloc, &mut text, script, &steps)?;
     Ok(PlayedScript {
         record,
+        steps,
         text: text.into_frame(),
     })
 }

@@ -10,7 +10,7 @@ use Rattle.leaf_set.specs.Rising.{Rises}
 use Rattle.leaf_set.proofs.Learning.{rises-side, all-side, stands-me, stands-beyond, stands-held, stands-placed}
 use Rattle.leaf_set.proofs.LeafSet.learn.Goals as goal
 use Rattle.leaf_set.proofs.LeafSet.learn.Goals.{then-eq-via-then-eq, then-eq-via-else-eq+then-not-in_range}
-use Rattle.leaf_set.proofs.LeafSet.learn.Goals.{then-eq-via-else-eq+else-not-in_range+then-has}
+use Rattle.leaf_set.proofs.LeafSet.learn.Goals.{then-eq-via-else-eq+else-not-in_range+then-holds}
 
 pub returns-then-eq-clause-stands : goal.returns-then-eq-clause-stands
 returns-then-eq-clause-stands c = λ known st.
@@ -18,14 +18,14 @@ returns-then-eq-clause-stands c = λ known st.
       | then-eq-via-then-eq w ↦ stands-me c.args.self.now known c.args.id st
           (eqb-true c.args.id c.self.inside.me (sym c.eq.ensures ∙ w.if-eq.true) ∙ ap (λ (s : Leaves). s.me) c.self.view_is)
       | then-eq-via-else-eq+then-not-in_range w ↦ stands-beyond c.args.self.now known c.args.id st (sym w.in_range.ensures ∙ w.if-not-in_range.true)
-      | then-eq-via-else-eq+else-not-in_range+then-has w ↦ stands-held c.args.self.now known c.args.id st (sym w.has.ensures ∙ w.if-has.true)
+      | then-eq-via-else-eq+else-not-in_range+then-holds w ↦ stands-held c.args.self.now known c.args.id st (sym w.holds.ensures.held ∙ w.if-holds.true)
     ]
 
 pub returns-clause-stands : goal.returns-clause-stands
 returns-clause-stands c = λ known st.
     stands-placed c.args.self.now _ known c.args.id st
     (subst (λ (s : Leaves). (c.args.id == s.me) ≡ false) c.self.view_is (sym c.eq.ensures ∙ c.if-eq.false))
-    (sym c.has.ensures ∙ c.if-has.false)
+    (sym c.holds.ensures.held ∙ c.if-holds.false)
     (ap (λ (s : Leaves). s.me) c.self.view_is)
     (subst (λ (s : Leaves). c.place-on_right.new.self ≡ take LEAVES_PER_SIDE (placed (λ z. cw_of s.me z) c.args.id s.right)) c.self.view_is
     c.place-on_right.ensures.placed)

@@ -15,7 +15,7 @@ headline_law-requires g c =
     c.deref.ensures.value ∙ c.in_ok-nodes.ensures ∙ ap ids c.nodes.ensures.value ∙ ap (λ (t : PlainScenario). ids t.nodes) said in
     let founder : c.founder.result ≡ s.founder = c.founder.ensures.value ∙ ap (λ (t : PlainScenario). t.founder) said in
     subst (λ (x : Id). IsRecord (record { nodes = c.deref.result.now; founder = x }) es) (sym founder)
-    (subst (λ (xs : List Id). IsRecord (record { nodes = xs; founder = s.founder }) es) (sym nodes) c.in_ok-played.ensures.played.legal)
+    (subst (λ (xs : List Id). IsRecord (record { nodes = xs; founder = s.founder }) es) (sym nodes) c.in_ok-played.ensures.played.played.legal)
 
 pub returns : goal.returns
 returns g c =
@@ -25,7 +25,7 @@ returns g c =
     let nodes : c.deref.result.now ≡ ids s.nodes =
     c.deref.ensures.value ∙ c.in_ok-nodes.ensures ∙ ap ids c.nodes.ensures.value ∙ ap (λ (t : PlainScenario). ids t.nodes) said in
     let founder : c.founder.result ≡ s.founder = c.founder.ensures.value ∙ ap (λ (t : PlainScenario). t.founder) said in
-    let both = c.in_ok-played.ensures.played in
+    let both = c.in_ok-played.ensures.played.played in
     record {
       is = record {
         played = record {
@@ -37,5 +37,5 @@ returns g c =
         };
         both = both;
       };
-      is_text = c.in_ok-played.ensures.is_text;
+      is_text = c.in_ok-played.ensures.played.is_text;
     }

@@ -2,8 +2,8 @@ use Rattle.std.proofs.Common.{◌∙◌, sym, ap}
 use Rattle.scenario_reader.specs.declared.node.NodeLine.{NodeLine}
 use Rattle.overlay_rules.proofs.Prefixes.{take-next}
 use Rattle.delivery_report.proofs.Found.{FindsAll-kept, FindsAll-added, FindsAll-same}
-use Rattle.delivery_report.proofs.names.Names.of.Goals as goal
-use Rattle.delivery_report.proofs.names.Names.of.Goals.{then-not-contains_key+in_ok-insert, else-not-contains_key}
+use Rattle.delivery_report.proofs.names.first_of_each.Goals as goal
+use Rattle.delivery_report.proofs.names.first_of_each.Goals.{then-not-contains_key+in_ok-insert, else-not-contains_key}
 
 pub loop-node-preserved : goal.loop-node-preserved
 loop-node-preserved c =
