@@ -1,13 +1,15 @@
 -- What the steps of the reader rest on.
-use Rattle.std.proofs.Common.{◌≡◌, ◌<◌, ◌≤◌, ◌+◌, ℕ, suc, cond, Bool, true, false, Some, List, [], ◌∷◌, ◌++◌, length, map}
+use Rattle.std.proofs.Common.{◌≡◌, ◌≢◌, ◌<◌, ◌≤◌, ◌+◌, ℕ, zero, suc, cond, Bool, true, false, Some, List, [], ◌∷◌, ◌++◌, length, map}
 use Rattle.std.proofs.Common.{get_or, Contains}
 use Rattle.std.proofs.Common.{refl, sym, ap, subst, ◌∙◌, arith}
-use Rattle.std.specs.Prelude.{bytes_eq}
-use Rattle.std.proofs.lemmas.List.{length_push}
+use Rattle.std.specs.Prelude.{AllPairs, bytes_eq}
+use Rattle.std.proofs.lemmas.Bool.{false_from_ne_true}
+use Rattle.std.proofs.lemmas.List.{get_or-map, length-map, length_push}
+use Rattle.std.proofs.lemmas.Slice.Eq.{bytes_eq-Decides}
 use Rattle.scenario_reader.specs.declared.limits.TheConstants.{MOST_DELIVERIES}
 use Rattle.scenario_reader.specs.declared.node.NodeLine.{NodeLine}
 use Rattle.scenario_reader.specs.declared.words.Word.{Word}
-use Rattle.scenario_reader.specs.Plain.{ids, node_named}
+use Rattle.scenario_reader.specs.Plain.{ids, node_named, node_names}
 use Rattle.scenario_reader.specs.Words.{plain_word}
 use Rattle.scribe_core.specs.declared.action.GroupAction.{GroupAction}
 use Rattle.scribe_core.specs.Actions.{AreActionsFrom, MayFollow, counted}
@@ -22,6 +24,24 @@ id_of_named (first ∷ nodes) name node found = by_test (bytes_eq first.name nam
       Contains (ids (first ∷ nodes)) node.id
   by_test true later is = let here : first ≡ node = cc in (0, omega arith, ap (λ (n : NodeLine). n.id) here)
   by_test false later is = let has = later is in (suc has.0, omega (arith, has.1), has.2)
+
+-- where names differ, a node with this name is the one that is found
+pub named_at : (nodes : List NodeLine) (name : List ℕ) (place : ℕ) (node : NodeLine) → AllPairs ◌≢◌ (node_names nodes) → place < length nodes →
+    node ≡ get_or nodes place node → bytes_eq node.name name ≡ true → node_named nodes name ≡ Some node
+named_at [] name place node differ within at has = absurd (omega arith)
+named_at (first ∷ nodes) name zero node differ within at has = rw (← at, has) refl
+named_at (first ∷ nodes) name (suc place) node differ within at has =
+    rw other (named_at nodes name place node (λ i j d before end. differ (suc i) (suc j) d (omega arith) (omega arith)) (omega arith) at has)
+  where
+    below : suc place < length (node_names (first ∷ nodes))
+    below = let long = length-map (first ∷ nodes) (λ (n : NodeLine). n.name) in omega arith
+
+    there : get_or (node_names nodes) place first.name ≡ name
+    there = get_or-map (λ (n : NodeLine). n.name) nodes place node first.name (omega arith) ∙ ap (λ (n : NodeLine). n.name) (sym at)
+        ∙ (bytes_eq-Decides node.name name).0 has
+
+    other : bytes_eq first.name name ≡ false
+    other = false_from_ne_true _ (λ same. differ 0 (suc place) first.name (omega arith) below ((bytes_eq-Decides first.name name).0 same ∙ sym there))
 
 -- ---- actions
 

@@ -1,12 +1,13 @@
 //! A script whose part two is being read.
 
-ghost use Rattle.std.specs.Prelude.{◌≡◌, ◌+◌, ◌≤◌, Contains, IfSome, OnOk, option_map};
+ghost use Rattle.std.specs.Prelude.{◌≡◌, ◌≢◌, ◌+◌, ◌≤◌, AllPairs, Contains, IfSome, OnOk, option_map};
 ghost use Rattle.scenario_reader.specs.declared.limits.TheConstants.{MOST_DELIVERIES};
-ghost use Rattle.scenario_reader.specs.Plain.{ids, node_named};
+ghost use Rattle.scenario_reader.specs.Plain.{ids, node_named, node_names};
 ghost use Rattle.scribe_core.specs.declared.action.GroupWhat.TheVariants as what;
 ghost use Rattle.group_reader.specs.Grammar.{node_id};
 ghost use Rattle.group_reader.specs.Plain.{nothing_yet, script_of, with_command, with_deliveries};
 
+use crate::guesses::Guesses;
 use crate::script::GroupScript;
 use ring_math::{Id, OutOfMemory};
 use scenario_reader::{Name, NodeLine, Scenario};
@@ -21,6 +22,7 @@ pub(crate) struct ScriptBuilder {
     actions: Vec<GroupAction>,
     commands: u64,
     deliveries: u64,
+    guesses: Guesses,
 }
 
 impl Model for ScriptBuilder {
@@ -42,11 +44,13 @@ impl ScriptBuilder {
     pub(crate) fn new(alloc: Global, scenario: Scenario) -> ScriptBuilder
         ensures { result ≡ nothing_yet scenario }
     {
+        let guesses = Guesses::of(scenario.nodes());
         ScriptBuilder {
             scenario,
             actions: Vec::new(alloc),
             commands: 0,
             deliveries: 0,
+            guesses,
         }
     }
 
@@ -55,7 +59,8 @@ impl ScriptBuilder {
         ensures value { result ≡ node_id self.now name.now }
         ensures declared { IfSome result (λ id. Contains (ids self.now.scenario.nodes) id) }
     {
-        let node = node_named(self.scenario.nodes(), name)?;
+        let guess = self.guesses.place(name);
+        let node = node_named(self.scenario.nodes(), name, guess)?;
         Some(node.id)
     }
 
@@ -123,9 +128,13 @@ impl ScriptBuilder {
     }
 }
 
-/// The node that was declared under a name.
-fn node_named<'a>(nodes: &'a [NodeLine], name: &[u8]) -> Option<&'a NodeLine>
+/// The node that was declared under a name. It may stand at the guessed place.
+fn node_named<'a>(nodes: &'a [NodeLine], name: &[u8], guess: usize) -> Option<&'a NodeLine>
+    requires { AllPairs ◌≢◌ (node_names nodes.now) }
     ensures { option_map (λ node. node.now) result ≡ node_named nodes.now name.now }
 {
-    nodes.iter().find(|node| node.name.as_slice() == name)
+    match nodes.get(guess) {
+        Some(node) if node.name.as_slice() == name => Some(node),
+        _ => nodes.iter().find(|node| node.name.as_slice() == name),
+    }
 }

@@ -6,6 +6,7 @@
 mod builder;
 mod cut;
 mod form;
+mod guesses;
 mod limits;
 mod line;
 mod read;

@@ -8,8 +8,8 @@ use crate::acts::Act;
 use crate::starts::{Starts, Stretch};
 use crate::strand::Strand;
 use node_cell::{CellEntry, CellInput};
-use ring_math::Id;
-use wire_msg::{Envelope, Note};
+use ring_math::{Bytes, Id, Ids};
+use wire_msg::{Envelope, Message, Note, Reply};
 
 /// How many entries are looked at together.
 pub(crate) const TOGETHER: usize = 32;
@@ -21,9 +21,12 @@ struct Sight {
     sender: Id,
     near: Stretch,
     guess: Option<usize>,
-    /// What was seen first of what the entry sent and noted. Nothing is done with it.
+    /// What was seen first of what the entry sent and noted, then of the lists in it and in what came, and then of the message that
+    /// stands where it is guessed. Nothing is done with it.
     sent: u64,
     is_answer: bool,
+    listed: u64,
+    there: u64,
 }
 
 /// How much entries send and note.
@@ -49,6 +52,8 @@ impl Sight {
             guess: None,
             sent: 0,
             is_answer: false,
+            listed: 0,
+            there: 0,
         }
     }
 
@@ -66,6 +71,28 @@ impl Sight {
             sight.is_answer = matches!(note, Note::Answered { .. });
         }
         sight
+    }
+
+    /// Looks at the lists in what came to an entry, and in what it sent and noted first.
+    fn look_at_lists(&mut self, entry: &CellEntry) {
+        if let CellInput::Comes(envelope) = &entry.input {
+            self.listed ^= glimpse(&envelope.message);
+        }
+        if let Some(envelope) = entry.sent.as_slice().first() {
+            self.listed ^= glimpse(&envelope.message);
+        }
+        if let Some(Note::Answered { reply, .. }) = entry.notes.as_slice().first() {
+            self.listed ^= glimpse_of_reply(reply);
+        }
+    }
+
+    /// Looks at the message that stands where it is guessed, with which the one that came is compared.
+    fn look_there(&mut self, sent: &[Envelope]) {
+        if let Some(place) = self.guess
+            && let Some(envelope) = sent.get(place)
+        {
+            self.there = glimpse(&envelope.message);
+        }
     }
 
     /// Whether an envelope of the stamp and the sender stands where it is guessed, and none of a later stamp before it.
@@ -112,6 +139,11 @@ impl Ahead {
                 load.noted = load.noted.saturating_add(entry.notes.as_slice().len());
             }
         }
+        for (sight, act) in self.sights.iter_mut().zip(acts) {
+            if let Some(entry) = entry_of(act, strands) {
+                sight.look_at_lists(entry);
+            }
+        }
         for sight in self.sights.iter_mut() {
             sight.near = starts.near(sight.stamp);
         }
@@ -122,6 +154,9 @@ impl Ahead {
             if !sight.is_right(sent) {
                 sight.guess = None;
             }
+        }
+        for sight in self.sights.iter_mut() {
+            sight.look_there(sent);
         }
         load
     }
@@ -135,4 +170,43 @@ impl Ahead {
 /// The entry that stands there, if there is one.
 fn entry_of<'a, S: Strand>(act: &Act, strands: &'a [S]) -> Option<&'a CellEntry> {
     strands.get(act.history as usize)?.entry(act.place as usize)
+}
+
+/// What is seen first of a message: of the list in it, if it has one, or of what stands in it.
+fn glimpse(message: &Message) -> u64 {
+    match message {
+        Message::Insert { bytes, .. }
+        | Message::Replicate { bytes, .. }
+        | Message::Handover { bytes, .. } => first_byte(bytes),
+        Message::JoinReply { members, .. } | Message::ProbeReply { members, .. } => {
+            first_id(members)
+        }
+        Message::LookupReply { reply, .. }
+        | Message::InsertReply { reply, .. }
+        | Message::FetchReply { reply, .. }
+        | Message::ReclaimReply { reply, .. } => glimpse_of_reply(reply),
+        Message::Lookup { number, .. }
+        | Message::Fetch { number, .. }
+        | Message::Reclaim { number, .. }
+        | Message::ReplicaAck { number, .. } => *number,
+        _ => 0,
+    }
+}
+
+fn glimpse_of_reply(reply: &Reply) -> u64 {
+    match reply {
+        Reply::Stored { holders } => first_id(holders),
+        Reply::Found { bytes, .. } => first_byte(bytes),
+        _ => 0,
+    }
+}
+
+fn first_byte(bytes: &Bytes) -> u64 {
+    bytes.as_slice().first().map_or(0, |byte| u64::from(*byte))
+}
+
+fn first_id(ids: &Ids) -> u64 {
+    ids.as_slice()
+        .first()
+        .map_or(0, |id| (id.0 % (1 << 64)) as u64)
 }
