@@ -1,16 +1,15 @@
 -- The first answers to commands, in notes that come one after another.
-use Rattle.std.proofs.Common.{◌≡◌, ◌<◌, ◌+◌, ◌==◌, ℕ, Bool, true, false, cond, Option, Some, None, List, [], ◌∷◌, ◌++◌, length, take, get_or, refl}
-use Rattle.std.proofs.Common.{sym, ap, ◌∙◌}
-use Rattle.std.specs.Prelude.{is_some}
-use Rattle.std.proofs.lemmas.Bool.Decides.{Decides-eqb}
+use Rattle.std.proofs.Common.{◌≡◌, ◌<◌, ◌≤◌, ◌+◌, ◌==◌, ℕ, Bool, true, false, cond, Option, Some, None, List, [], ◌∷◌, ◌++◌, length, take, get_or, refl}
+use Rattle.std.proofs.Common.{sym, ap, ◌∙◌, All, arith}
 use Rattle.std.proofs.lemmas.List.{take_more}
+use Rattle.std.proofs.lemmas.List.Elements.{All-nil, All-cons}
+use Rattle.scribe_core.specs.declared.action.GroupAction.{GroupAction}
+use Rattle.scribe_core.specs.declared.action.GroupWhat.{GroupWhat}
+use Rattle.scribe_core.specs.declared.action.GroupWhat.TheVariants as what
 use Rattle.scribe_core.specs.declared.note.GroupNote.{GroupNote}
+use Rattle.scribe_core.specs.Actions.{AreActionsFrom, MayFollow, counted}
 use Rattle.group_report.specs.declared.answers.Answer.{Answer}
-use Rattle.group_report.specs.Answers.{answer_by, answer_in, answer_to, or_later}
-
-later_none : (a : Option Answer) → or_later a None ≡ a
-later_none None = refl
-later_none (Some a) = refl
+use Rattle.group_report.specs.Answers.{IsNumberedUpTo, answer_by, answer_in, answer_to, or_later}
 
 answer_by-later : (n : ℕ) (o : Option (ℕ × Answer)) (x y : Option Answer) → answer_by n o (or_later x y) ≡ or_later (answer_by n o x) y
 answer_by-later n None x y = refl
@@ -31,28 +30,21 @@ answer_to-more n notes i a l is =
     ap (λ ns. answer_to n ns) (take_more notes i a l ∙ ap (λ (b : GroupNote). take i notes ++ b ∷ []) (sym is))
     ∙ answer_to-append n (take i notes) (a ∷ [])
 
-pub none_more : (n : ℕ) (before : Option Answer) → or_later before (answer_by n None None) ≡ before
-none_more n before = later_none before
+-- ---- the numbers of commands
 
--- an answer to a command that has one, and to one that has none
-some_stays : (o later : Option Answer) → true ≡ is_some o → or_later o later ≡ o
-some_stays None later e = cc
-some_stays (Some a) later e = refl
+-- behind so many commands, none of these actions has a greater number than there are with them
+pub numbered : (nodes : List ℕ) (commands most : ℕ) (actions : List GroupAction) → commands + length actions ≤ most → AreActionsFrom nodes commands actions →
+    All (λ (a : GroupAction). IsNumberedUpTo most a.what) actions
+numbered nodes commands most [] le h = All-nil (λ (a : GroupAction). IsNumberedUpTo most a.what)
+numbered nodes commands most (a ∷ actions) le h =
+    All-cons (λ (b : GroupAction). IsNumberedUpTo most b.what) a actions (one a.what h.0) (numbered nodes (counted commands a.what) most actions (rest a.what) h.1)
+  where
+    one : (w : GroupWhat) → MayFollow nodes commands w → IsNumberedUpTo most w
+    one (what.Command n x name c) may = let is = may.0 in omega (arith, is, le)
+    one (what.Settle n) may = tt
+    one (what.Deliver m) may = tt
 
-none_takes : (o later : Option Answer) → false ≡ is_some o → or_later o later ≡ later
-none_takes None later e = refl
-none_takes (Some a) later e = cc
-
-pub known_more : (n m : ℕ) (a : Answer) (before : ℕ → Option Answer) → true ≡ is_some (before m) →
-    before n ≡ or_later (before n) (answer_by n (Some (m, a)) None)
-known_more n m a before known = by_test (m == n) refl where
-  by_test : (t : Bool) → (m == n) ≡ t → before n ≡ or_later (before n) (cond t (Some a) None)
-  by_test true e = sym (some_stays (before n) (Some a) (known ∙ ap (λ (k : ℕ). is_some (before k)) ((Decides-eqb m n).0 e)))
-  by_test false e = sym (later_none (before n))
-
-pub new_more : (n m : ℕ) (a : Answer) (before : ℕ → Option Answer) → false ≡ is_some (before m) →
-    cond (m == n) (Some a) (before n) ≡ or_later (before n) (answer_by n (Some (m, a)) None)
-new_more n m a before new = by_test (m == n) refl where
-  by_test : (t : Bool) → (m == n) ≡ t → cond t (Some a) (before n) ≡ or_later (before n) (cond t (Some a) None)
-  by_test true e = sym (none_takes (before n) (Some a) (new ∙ ap (λ (k : ℕ). is_some (before k)) ((Decides-eqb m n).0 e)))
-  by_test false e = sym (later_none (before n))
+    rest : (w : GroupWhat) → counted commands w + length actions ≤ most
+    rest (what.Command n x name c) = omega (arith, le)
+    rest (what.Settle n) = omega (arith, le)
+    rest (what.Deliver m) = omega (arith, le)

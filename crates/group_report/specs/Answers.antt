@@ -1,5 +1,5 @@
 -- How the commands of a script were answered, as lines.
-use Rattle.std.specs.Prelude.{ℕ, ◌==◌, if◌then◌else◌, List, [], ◌∷◌, ◌++◌, Option, Some, None, codes, decimal, flat_map}
+use Rattle.std.specs.Prelude.{◌≡◌, ◌<◌, ◌≤◌, ℕ, ◌==◌, if◌then◌else◌, List, [], ◌∷◌, ◌++◌, Option, Some, None, codes, decimal, flat_map, length, slice_index_or}
 use Rattle.ring_math.specs.Names.{Number}
 use Rattle.scribe_core.specs.declared.action.GroupAction.{GroupAction}
 use Rattle.scribe_core.specs.declared.action.GroupWhat.{GroupWhat}
@@ -49,3 +49,14 @@ action_line notes (what.Deliver m) = []
 -- a line for each command of these actions, of which this was noted
 abbrev pub answer_lines : List GroupAction → List GroupNote → List ℕ
 answer_lines actions notes = flat_map (λ (a : GroupAction). action_line notes a.what) actions
+
+-- a command's number is at most this one
+abbrev pub IsNumberedUpTo : Number → GroupWhat → Type 0
+IsNumberedUpTo most (what.Command n node name c) = n ≤ most
+IsNumberedUpTo most (what.Settle n) = Unit {0}
+IsNumberedUpTo most (what.Deliver m) = Unit {0}
+
+-- for each number below this one the first answer to its command
+pub record HasAnswers (below : Number) (answers : List (Option Answer)) (notes : List GroupNote) : Type 0 where
+  pub count : length answers ≡ below
+  pub each : (n : Number) → n < below → slice_index_or answers n None ≡ answer_to n notes

@@ -1,14 +1,12 @@
 //! How commands were answered.
 
-ghost use Rattle.std.specs.Prelude.{◌≡◌, ◌++◌, ℕ, IfOk, None, OnOk, Some};
-ghost use Rattle.std.specs.BTreeMap.{get};
-ghost use Rattle.std.specs.Ordering.{nat_cmp};
-ghost use Rattle.group_report.specs.Answers.{answer_by, answer_in, answer_line, answer_lines, answer_text, answer_to, or_later};
+ghost use Rattle.std.specs.Prelude.{◌≡◌, ◌<◌, ◌++◌, ℕ, All, IfOk, None, OnOk, Some, length, slice_index_or};
+ghost use Rattle.scribe_core.specs.declared.action.GroupAction.{GroupAction as PlainAction};
+ghost use Rattle.group_report.specs.Answers.{HasAnswers, IsNumberedUpTo, answer_by, answer_in, answer_line, answer_lines, answer_text, or_later};
 
 use ring_math::OutOfMemory;
 use scribe_core::{GroupAction, GroupNote, GroupWhat};
 use std::alloc::Global;
-use std::collections::BTreeMap;
 use text_writer::Text;
 
 /// The answer to a command.
@@ -27,50 +25,46 @@ pub(crate) fn answer_lines(
     actions: &[GroupAction],
     notes: &[GroupNote],
 ) -> Result<(), OutOfMemory>
+    requires { All (λ (a : PlainAction). IsNumberedUpTo (length actions.now) a.what) actions.now }
     ensures { OnOk result (text.new ≡ text.old ++ answer_lines actions.now notes.now) }
 {
-    let answers = answers_in(alloc, notes)?;
+    let answers = answers_in(alloc, actions.len() + 1, notes)?;
     for action in actions {
         if let GroupWhat::Command { number, .. } = &action.what {
-            put_answer(text, *number, answers.get(number).copied())?;
+            put_answer(text, *number, answers[*number as usize])?;
         }
     }
     Ok(())
 }
 
-/// The first answer to each command that has one.
-fn answers_in(alloc: Global, notes: &[GroupNote]) -> Result<BTreeMap<u64, Answer>, OutOfMemory>
-    ensures { IfOk result (λ answers. (n : ℕ) → get nat_cmp answers n ≡ answer_to n notes.now) }
+/// The first answer to each command below this number, at its number.
+fn answers_in(
+    alloc: Global,
+    count: usize,
+    notes: &[GroupNote],
+) -> Result<Vec<Option<Answer>>, OutOfMemory>
+    ensures { IfOk result (λ answers. HasAnswers count answers.items notes.now) }
 {
-    let mut answers = BTreeMap::new(alloc);
+    let mut answers = vec![in alloc; None; count]?;
     for note in notes {
-        add_answer(&mut answers, note)?;
+        add_answer(&mut answers, note);
     }
     Ok(answers)
 }
 
 /// Adds a note's answer, if it is the first to its command.
-fn add_answer(answers: &mut BTreeMap<u64, Answer>, note: &GroupNote) -> Result<(), OutOfMemory>
-    ensures { OnOk result ((n : ℕ) → get nat_cmp answers.new n ≡ or_later (get nat_cmp answers.old n) (answer_by n (answer_in note.now) None)) }
+fn add_answer(answers: &mut Vec<Option<Answer>>, note: &GroupNote)
+    ensures count { length answers.new.items ≡ length answers.old.items }
+    ensures answers { (n : ℕ) → n < length answers.old.items →
+        slice_index_or answers.new.items n None ≡ or_later (slice_index_or answers.old.items n None) (answer_by n (answer_in note.now) None) }
 {
-    match answer_in(note) {
-        Some((number, answer)) => add_first(answers, number, answer),
-        None => Ok(()),
+    let Some((number, answer)) = answer_in(note) else {
+        return;
+    };
+    let place = number as usize;
+    if place < answers.len() && answers[place].is_none() {
+        answers[place] = Some(answer);
     }
-}
-
-fn add_first(
-    answers: &mut BTreeMap<u64, Answer>,
-    number: u64,
-    answer: Answer,
-) -> Result<(), OutOfMemory>
-    ensures { OnOk result ((n : ℕ) → get nat_cmp answers.new n ≡ or_later (get nat_cmp answers.old n) (answer_by n (Some (number, answer)) None)) }
-{
-    if answers.contains_key(&number) {
-        return Ok(());
-    }
-    answers.insert(number, answer)?;
-    Ok(())
 }
 
 /// A note's answer to a command, with the command's number.

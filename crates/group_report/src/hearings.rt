@@ -41,6 +41,10 @@ fn entry_lines(
 ) -> Result<(), OutOfMemory>
     ensures { OnOk result (text.new ≡ text.old ++ entry_lines names.now (visit sent.now (entry_seen entry.now).event) (entry_seen entry.now).notes) }
 {
+    // Half of all entries note nothing, and whose they are need not be looked up.
+    if entry.notes.is_empty() {
+        return Ok(());
+    }
     match node_of(&entry.event, sent) {
         Some(node) => note_lines(text, names, node, entry.notes),
         None => Ok(()),

@@ -1,14 +1,23 @@
-use Rattle.std.proofs.Common.{◌∙◌, ◌++◌, ℕ, List, ap}
+use Rattle.std.proofs.Common.{◌∙◌, ◌++◌, ℕ, List, ap, arith, length, subst, sym}
 use Rattle.scenario_reader.specs.declared.node.NodeLine.{NodeLine}
 use Rattle.scenario_reader.specs.Plain.{PlainScenario}
 use Rattle.scribe_core.specs.declared.action.GroupAction.{GroupAction}
 use Rattle.scribe_core.specs.declared.note.GroupNote.{GroupNote}
+use Rattle.scenario_reader.specs.Plain.{ids}
+use Rattle.scribe_core.specs.Actions.{AreActions}
 use Rattle.scribe_core.specs.Record.{notes_in}
 use Rattle.group_report.specs.Answers.{answer_lines}
 use Rattle.group_report.specs.Counts.{counts_of, summary_line}
 use Rattle.group_report.specs.Hearings.{hearing_lines}
+use Rattle.group_report.proofs.Answering.{numbered}
 use Rattle.group_report.proofs.Growing.{Grown, grown_more}
 use Rattle.group_report.proofs.put_groups.Goals as goal
+
+pub answer_lines-requires : goal.answer_lines-requires
+answer_lines-requires c =
+    let actions = c.actions.result.now in
+    numbered (ids c.args.script.now.scenario.nodes) 0 (length actions) actions (omega arith)
+    (subst (AreActions (ids c.args.script.now.scenario.nodes)) (sym c.actions.ensures.value) c.actions.ensures.rules)
 
 pub returns : goal.returns
 returns c =
