@@ -37,7 +37,8 @@ pub numbered : (nodes : List ℕ) (commands most : ℕ) (actions : List GroupAct
     All (λ (a : GroupAction). IsNumberedUpTo most a.what) actions
 numbered nodes commands most [] le h = All-nil (λ (a : GroupAction). IsNumberedUpTo most a.what)
 numbered nodes commands most (a ∷ actions) le h =
-    All-cons (λ (b : GroupAction). IsNumberedUpTo most b.what) a actions (one a.what h.0) (numbered nodes (counted commands a.what) most actions (rest a.what) h.1)
+    All-cons (λ (b : GroupAction). IsNumberedUpTo most b.what) a actions (one a.what h.0)
+    (numbered nodes (counted commands a.what) most actions (rest a.what) h.1)
   where
     one : (w : GroupWhat) → MayFollow nodes commands w → IsNumberedUpTo most w
     one (what.Command n x name c) may = let is = may.0 in omega (arith, is, le)
