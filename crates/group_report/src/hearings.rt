@@ -41,7 +41,7 @@ fn entry_lines(
 ) -> Result<(), OutOfMemory>
     ensures { OnOk result (text.new ≡ text.old ++ entry_lines names.now (visit sent.now (entry_seen entry.now).event) (entry_seen entry.now).notes) }
 {
-    // Half of all entries note nothing, and whose they are need not be looked up.
+    // What notes nothing has no line, so whose it is need not be looked up.
     if entry.notes.is_empty() {
         return Ok(());
     }
