@@ -1,21 +1,17 @@
 //! The names of nodes.
 
-ghost use Rattle.std.specs.Prelude.{◌≡◌, ◌<◌, ◌^◌, ◌==◌, ◌++◌, find, All, IfOk, OnOk};
+ghost use Rattle.std.specs.Prelude.{◌≡◌, ◌==◌, ◌++◌, find, All, IfOk, OnOk};
 ghost use Rattle.std.specs.Option.{option_copied};
 ghost use Rattle.scenario_reader.specs.declared.node.NodeLine.{NodeLine as PlainNode};
 ghost use Rattle.delivery_report.specs.Answers.{name_of, names_of};
-ghost use Rattle.delivery_report.specs.declared.names.TheConstants.{GUESS_BITS};
 ghost use Rattle.delivery_report.specs.Names.{FindsAll, IsRight};
 
-use ring_math::{Id, OutOfMemory};
+use ring_math::{GUESS_BITS, Id, OutOfMemory, guess_of};
 use scenario_reader::NodeLine;
 use std::alloc::Global;
 use std::collections::BTreeMap;
 use std::marker::Model;
 use text_writer::Text;
-
-/// How many of its first bits an identifier is guessed by.
-const GUESS_BITS: u32 = 10;
 
 /// The nodes of a scenario, to be found by their identifiers.
 #[derive(Drop)]
@@ -106,13 +102,6 @@ fn first_of_each(
         }
     }
     Ok(by_id)
-}
-
-/// Which guess an identifier goes by.
-fn guess_of(id: Id) -> usize
-    ensures { result < 2 ^ GUESS_BITS }
-{
-    (id.0 >> (u128::BITS - GUESS_BITS)) as usize
 }
 
 /// The guesses for these nodes, the first of which with each identifier are known: of those that begin alike the last is guessed.

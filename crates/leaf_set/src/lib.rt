@@ -2,18 +2,18 @@
 //! [`LEAVES_PER_SIDE`](ring_math::LEAVES_PER_SIDE) of each (Pastry, Rowstron and Druschel 2001).
 #![tactic(auto)]
 
-ghost use Rattle.std.specs.Prelude.{◌≡◌, ◌≤◌, ◌&&◌, ◌||◌, ◌++◌, not, [], IsTrue, List, Contains, MatchOption, length, slice_get};
+ghost use Rattle.std.specs.Prelude.{◌≡◌, ◌≤◌, ◌&&◌, ◌||◌, ◌++◌, not, false, [], IsTrue, List, Contains, MatchOption, length, slice_get};
 ghost use Rattle.ring_math.specs.Names.{Id};
 ghost use Rattle.ring_math.specs.Members.{IsClosest};
-ghost use Rattle.ring_math.specs.Sides.{learn as learn_of};
+ghost use Rattle.std.specs.List.{list_any};
+ghost use Rattle.ring_math.specs.Sides.{learn as learn_of, learn_all as learn_all_of};
 ghost use Rattle.leaf_set.specs.Leaves.{StandsFor, Improves, in_order, holds};
-ghost use Rattle.leaf_set.specs.Range.{is_in_range};
+ghost use Rattle.leaf_set.specs.Range.{is_in_range, lacks};
 
 mod side;
 
 use ring_math::{Direction, Id, IdsBuilder, nearer_of};
 use side::Side;
-pub use side::append;
 use std::marker::Model;
 
 /// Two arrays of identifiers by distance, seen from a node that is in neither.
@@ -79,6 +79,28 @@ impl LeafSet {
             || self.left.holds(self.me, Direction::Counterclockwise, id)
     }
 
+    /// Whether an identifier that stands on no side would stand on one if it were learnt.
+    fn lacks(&self, id: Id) -> bool
+        ensures { result ≡ lacks self.now id }
+    {
+        // Whom neither side reaches changes neither: most of a large ring, so it is asked before the sides are searched.
+        id != self.me && self.in_range(id) && !self.holds(id)
+    }
+
+    /// Whether one of these that stands on no side would stand on one if it were learnt. If there is none, the leaf set stays as
+    /// it is when they are learnt.
+    pub fn lacks_any(&self, ids: &[Id]) -> bool
+        ensures answer { result ≡ list_any (lacks self.now) ids.now }
+        ensures same { result ≡ false → (known : List Id) → StandsFor self.now known → StandsFor self.now (learn_all_of self.now.me known ids.now) }
+    {
+        for id in ids {
+            if self.lacks(*id) {
+                return true;
+            }
+        }
+        false
+    }
+
     /// Takes an identifier in on each side where it is among the nearest. It answers whether the identifier was
     /// on neither side and now is on one. The node itself is never learnt.
     pub fn learn(&mut self, id: Id) -> bool
@@ -86,8 +108,7 @@ impl LeafSet {
         ensures stands { (known : List Id) → StandsFor self.old known → StandsFor self.new (learn_of self.old.me known id) }
         ensures answer { result ≡ not (holds self.old id) && holds self.new id }
     {
-        // Whom neither side reaches changes neither: most of a large ring, so it is asked before the sides are searched.
-        if id == self.me || !self.in_range(id) || self.holds(id) {
+        if !self.lacks(id) {
             return false;
         }
         let on_right = self.right.place(self.me, Direction::Clockwise, id);

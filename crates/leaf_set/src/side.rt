@@ -42,14 +42,6 @@ fn put_in(ids: &mut [Id; LEAVES_PER_SIDE], place: usize, id: Id)
     ids[place] = id;
 }
 
-/// Appends an identifier to a list that has room for it.
-pub fn append(out: &mut IdsBuilder, id: Id)
-    requires { length out.old < MOST_MEMBERS }
-    ensures { out.new ≡ out.old ++ id ∷ [] }
-{
-    let _pushed = out.push(id);
-}
-
 /// At most [`LEAVES_PER_SIDE`] identifiers, the nearest first.
 #[derive(Drop)]
 pub(crate) struct Side {
@@ -183,7 +175,7 @@ impl Side {
         ensures copied { out.new ≡ out.old ++ self.now }
     {
         for id in self.as_slice() {
-            append(out, *id);
+            out.append(*id);
         }
     }
 
@@ -217,7 +209,7 @@ impl Side {
         let reach = other.reach(me, direction);
         for id in self.as_slice() {
             if !other.holds_within(reach, me, direction, *id) {
-                append(out, *id);
+                out.append(*id);
             }
         }
     }

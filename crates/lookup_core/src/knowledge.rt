@@ -6,7 +6,7 @@ ghost use Rattle.ring_math.specs.Sides.{learn as learn_of, learn_all as learn_al
 ghost use Rattle.route_table.specs.Entries.{is_new};
 ghost use Rattle.lookup_core.specs.Kept.{StandsFor, is_taken, is_kept, strangers as strangers_of};
 
-use leaf_set::{LeafSet, append};
+use leaf_set::LeafSet;
 use ring_math::{Id, IdsBuilder, MOST_MEMBERS, OutOfMemory};
 use route_table::RouteTable;
 use std::alloc::Global;
@@ -115,7 +115,7 @@ impl Knowledge {
         let mut strangers = IdsBuilder::new();
         for id in ids {
             if !self.keeps(*id) {
-                append(&mut strangers, *id);
+                strangers.append(*id);
             }
         }
         strangers

@@ -126,7 +126,7 @@ fn on_message(
         Message::Deny { attempt, why } => on_deny(node, alloc, from, *attempt, *why),
         Message::Release { attempt } => on_release(node, alloc, from, *attempt),
         Message::Confirm { attempt } => on_confirm(node, alloc, from, *attempt),
-        Message::Announce => on_announce(alloc, from),
+        Message::Announce => Ok(on_announce(alloc, from)),
     }
 }
 

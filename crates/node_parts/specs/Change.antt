@@ -9,9 +9,10 @@ use Rattle.overlay_rules.specs.State.{State, Lease, Phase, Ready}
 use Rattle.overlay_rules.specs.Roots.{with_ask, is_of}
 use Rattle.overlay_rules.specs.Gatekeeper.{is_left_to}
 use Rattle.past_core.specs.Waits.{taken_out, heard_at}
-use Rattle.std.specs.Global.{Box}
 use Rattle.node_parts.specs.declared.change.Change.{Change}
+use Rattle.node_parts.specs.declared.change.Parts.{Parts}
 use Rattle.node_parts.specs.declared.change.Rest.{Rest}
+use Rattle.node_parts.specs.declared.change.Rest.TheVariants as rest
 use Rattle.node_parts.specs.declared.change.SeatChange.{SeatChange}
 use Rattle.node_parts.specs.declared.change.SeatChange.TheVariants as seat
 use Rattle.node_parts.specs.declared.change.GateChange.{GateChange}
@@ -29,7 +30,6 @@ use Rattle.node_parts.specs.Seats.{phase_to, heard_phase, granted_phase}
 abbrev pub phase_after : SeatChange → Phase → Phase
 phase_after seat.Keep p = p
 phase_after (seat.To joiner) p = phase_to joiner.value p
-phase_after (seat.Heard from) p = heard_phase from p
 phase_after (seat.Granted given) p = granted_phase given.value p
 phase_after (seat.Ready a l r) p = Ready a l r
 
@@ -70,9 +70,8 @@ waiting_after (wait.Take n) ns = filter (λ m. not (m == n)) ns
 abbrev pub waited : Wait → State → State
 waited w s = record s { waiting = waiting_after w s.waiting }
 
--- all but what waits
-abbrev pub rest_changed : Rest → State → State
-rest_changed r s =
+abbrev pub parts_changed : Parts → State → State
+parts_changed r s =
     record s {
       phase = phase_after r.seat s.phase;
       left_gate = gate_after r.left_gate s.left_gate;
@@ -82,9 +81,12 @@ rest_changed r s =
       pending = pending_after r.past s.pending;
     }
 
-abbrev pub rest_after : Option (Box Rest) → State → State
-rest_after None s = s
-rest_after (Some r) s = rest_changed r.value s
+-- all but what waits
+abbrev pub rest_after : Rest → State → State
+rest_after rest.Keep s = s
+rest_after (rest.Learnt y) s = record s { known = learn s.me s.known y }
+rest_after (rest.Heard from l) s = record s { phase = heard_phase from s.phase; known = known_after s.me l s.known }
+rest_after (rest.Parts r) s = parts_changed r.value s
 
 abbrev pub changed : Change → State → State
 changed c s = waited c.waiting (rest_after c.rest s)

@@ -1,11 +1,12 @@
 -- The room that a change needs.
-use Rattle.std.specs.Prelude.{◌≤◌, ◌+◌, ℕ, Option, Some, None, length, min, vec_len, vec_capacity}
+use Rattle.std.specs.Prelude.{◌≤◌, ◌+◌, ℕ, length, min, vec_len, vec_capacity}
 use Rattle.ring_math.specs.Files.{buried_all}
 use Rattle.ring_math.specs.declared.limits.TheConstants.{MOST_ENTRIES}
 use Rattle.file_store.specs.Store.{Store}
-use Rattle.std.specs.Global.{Box}
 use Rattle.node_parts.specs.declared.change.Change.{Change}
+use Rattle.node_parts.specs.declared.change.Parts.{Parts}
 use Rattle.node_parts.specs.declared.change.Rest.{Rest}
+use Rattle.node_parts.specs.declared.change.Rest.TheVariants as rest
 use Rattle.node_parts.specs.declared.change.StoreChange.{StoreChange}
 use Rattle.node_parts.specs.declared.change.StoreChange.TheVariants as store
 use Rattle.node_parts.specs.declared.change.PastChange.{PastChange}
@@ -36,15 +37,17 @@ waits_more (wait.Add n) = 1
 waits_more (wait.Take n) = 0
 
 -- the files and the inserts that wait have the room
-pub record RestFits (n : Node) (r : Rest) : Type 0 where
+pub record PartsFit (n : Node) (r : Parts) : Type 0 where
   pub store : StoreFits n.store r.store
   pub past : length n.past.asks + asks_more r.past ≤ n.past.room
 
-abbrev pub IfRestFits : Node → Option (Box Rest) → Type 0
-IfRestFits n None = Unit {0}
-IfRestFits n (Some r) = RestFits n r.value
+abbrev pub RestFits : Node → Rest → Type 0
+RestFits n rest.Keep = Unit {0}
+RestFits n (rest.Learnt y) = Unit {0}
+RestFits n (rest.Heard from l) = Unit {0}
+RestFits n (rest.Parts r) = PartsFit n r.value
 
 -- the node has the room
 pub record Fits (n : Node) (c : Change) : Type 0 where
-  pub rest : IfRestFits n c.rest
+  pub rest : RestFits n c.rest
   pub waiting : vec_len n.waiting + waits_more c.waiting ≤ vec_capacity n.waiting

@@ -1,18 +1,19 @@
 //! Outcomes that many rows share: what is sent and noted beside a change.
 
 ghost use Rattle.std.specs.Prelude.{◌≡◌, IfOk, OnOk, [], ◌∷◌, ◌++◌};
+ghost use Rattle.ring_math.specs.Sides.{learn as learnt};
 ghost use Rattle.overlay_rules.specs.State.{State};
 ghost use Rattle.overlay_rules.specs.Outcome.{nothing, becomes, sent, before, to_both, to_each, replied as replied_of, reply_message};
 ghost use Rattle.overlay_rules.specs.Routed.{one_more as one_more_of};
 ghost use Rattle.wire_msg.specs.Words.{plain};
 ghost use Rattle.wire_msg.specs.declared.note.Note.TheVariants as note;
 ghost use Rattle.wire_msg.specs.declared.reply.Reply.TheVariants as reply;
-ghost use Rattle.node_parts.specs.Change.{changed, rest_changed, waited, phase_after, known_after, files_after, pending_after, gate_after};
+ghost use Rattle.node_parts.specs.Change.{changed, parts_changed, waited, phase_after, known_after, files_after, pending_after, gate_after};
 ghost use Rattle.node_parts.specs.Plans.{Plans};
-ghost use Rattle.node_parts.specs.Seats.{phase_to, granted_phase};
+ghost use Rattle.node_parts.specs.Seats.{phase_to, heard_phase, granted_phase};
 
 use crate::change::{
-    Change, GateChange, Learn, PastChange, Prepared, Rest, SeatChange, StoreChange, Wait,
+    Change, GateChange, Learn, Parts, PastChange, Prepared, Rest, SeatChange, StoreChange, Wait,
 };
 use join_core::Joiner;
 use overlay_rules::Asked;
@@ -27,7 +28,7 @@ impl Change {
         ensures { (s : State) → changed result s ≡ waited waiting s }
     {
         Change {
-            rest: None,
+            rest: Rest::Keep,
             waiting,
         }
     }
@@ -39,13 +40,33 @@ impl Change {
         Change::waits(Wait::Keep)
     }
 
-    /// The rest, and what waits.
-    pub fn of(alloc: Global, rest: Rest, waiting: Wait) -> Result<Change, OutOfMemory>
-        ensures { (s : State) → IfOk result (λ change. changed change s ≡ waited waiting (rest_changed rest s)) }
+    /// This node is learnt.
+    pub fn learns(id: Id) -> Change
+        ensures { (s : State) → changed result s ≡ record s { known = learnt s.me s.known id } }
     {
-        let rest = Box::new(alloc, rest)?;
+        Change {
+            rest: Rest::Learnt(id),
+            waiting: Wait::Keep,
+        }
+    }
+
+    /// A join that probes goes on: the sender has answered, and this is learnt.
+    pub fn hears(sender: Id, learn: Learn) -> Change
+        ensures { (s : State) → changed result s ≡ record s { phase = heard_phase sender s.phase; known = known_after s.me learn s.known } }
+    {
+        Change {
+            rest: Rest::Heard { sender, learn },
+            waiting: Wait::Keep,
+        }
+    }
+
+    /// These parts, and what waits.
+    pub fn of(alloc: Global, parts: Parts, waiting: Wait) -> Result<Change, OutOfMemory>
+        ensures { (s : State) → IfOk result (λ change. changed change s ≡ waited waiting (parts_changed parts s)) }
+    {
+        let parts = Box::new(alloc, parts)?;
         Ok(Change {
-            rest: Some(rest),
+            rest: Rest::Parts(parts),
             waiting,
         })
     }
@@ -54,7 +75,7 @@ impl Change {
     pub fn seats(alloc: Global, seat: SeatChange, learn: Learn) -> Result<Change, OutOfMemory>
         ensures { (s : State) → IfOk result (λ change. changed change s ≡ record s { phase = phase_after seat s.phase; known = known_after s.me learn s.known }) }
     {
-        let rest = Rest {
+        let parts = Parts {
             seat,
             left_gate: GateChange::Keep,
             right_gate: GateChange::Keep,
@@ -62,7 +83,7 @@ impl Change {
             store: StoreChange::Keep,
             past: PastChange::Keep,
         };
-        Change::of(alloc, rest, Wait::Keep)
+        Change::of(alloc, parts, Wait::Keep)
     }
 
     /// The join goes on to this, and what is learnt.
@@ -81,7 +102,7 @@ impl Change {
     ) -> Result<Change, OutOfMemory>
         ensures { (s : State) → IfOk result (λ change. changed change s ≡ record s { phase = phase_after seat s.phase; files = files_after store s.files }) }
     {
-        let rest = Rest {
+        let parts = Parts {
             seat,
             left_gate: GateChange::Keep,
             right_gate: GateChange::Keep,
@@ -89,7 +110,7 @@ impl Change {
             store,
             past: PastChange::Keep,
         };
-        Change::of(alloc, rest, Wait::Keep)
+        Change::of(alloc, parts, Wait::Keep)
     }
 
     /// What neighbours hand over is kept, and the files.
@@ -109,7 +130,7 @@ impl Change {
         ensures { (s : State) → IfOk result (λ change. changed change s
             ≡ record s { left_gate = gate_after left_gate s.left_gate; right_gate = gate_after right_gate s.right_gate }) }
     {
-        let rest = Rest {
+        let parts = Parts {
             seat: SeatChange::Keep,
             left_gate,
             right_gate,
@@ -117,7 +138,7 @@ impl Change {
             store: StoreChange::Keep,
             past: PastChange::Keep,
         };
-        Change::of(alloc, rest, Wait::Keep)
+        Change::of(alloc, parts, Wait::Keep)
     }
 
     /// The files, the inserts that wait, and the numbers that do.
@@ -130,7 +151,7 @@ impl Change {
         ensures { (s : State) → IfOk result (λ change. changed change s ≡ record
             (waited waiting s) { files = files_after store s.files; pending = pending_after past s.pending }) }
     {
-        let rest = Rest {
+        let parts = Parts {
             seat: SeatChange::Keep,
             left_gate: GateChange::Keep,
             right_gate: GateChange::Keep,
@@ -138,7 +159,7 @@ impl Change {
             store,
             past,
         };
-        Change::of(alloc, rest, waiting)
+        Change::of(alloc, parts, waiting)
     }
 }
 
@@ -284,6 +305,7 @@ pub fn send_to_each(
 ) -> Result<(), OutOfMemory>
     ensures { OnOk result (messages.new ≡ messages.old ++ to_each ids.now (plain message.now)) }
 {
+    messages.reserve(ids.len())?;
     for id in ids {
         messages.push(Outgoing {
             receiver: *id,
@@ -303,6 +325,7 @@ pub fn sent_to_both(
     ensures { IfOk result (λ messages. messages ≡ to_both left right (plain message.now)) }
 {
     let mut messages = Sends::new(alloc);
+    messages.reserve(2)?;
     messages.push(Outgoing {
         receiver: left,
         message: message.copy(alloc)?,

@@ -15,8 +15,6 @@ pub enum SeatChange {
     Keep,
     /// A join begins, goes on or ends. Leases are asked for with no lists yet; of a join that is done nothing is changed.
     To(Box<Joiner>),
-    /// A join that probes goes on: this node has answered.
-    Heard(Id),
     /// What neighbours hand over is kept, on each side that had nothing.
     Granted(Box<Taking>),
     /// It has joined by this attempt, with these links.
@@ -74,10 +72,10 @@ pub enum Wait {
     Take { number: u64 },
 }
 
-/// What a step changes of a node besides the numbers that wait. Its fields are there for the rows that plan a step and for
-/// `commit`, which makes it; who drives nodes hands a change on as it is.
+/// What a step changes of the parts of a node. Its fields are there for the rows that plan a step and for `commit`, which makes
+/// it; who drives nodes hands a change on as it is.
 #[derive(Drop)]
-pub struct Rest {
+pub struct Parts {
     pub seat: SeatChange,
     pub left_gate: GateChange,
     pub right_gate: GateChange,
@@ -86,11 +84,23 @@ pub struct Rest {
     pub past: PastChange,
 }
 
-/// What a step changes of a node. Most steps change the numbers that wait at most, so the rest is boxed: a change is moved
-/// often, and is to be small. Its fields are there for the rows that plan a step and for `commit`, as those of `Rest`.
+/// What a step changes of a node besides the numbers that wait. Most steps change nothing there, and in most others somebody is
+/// learnt and nothing else is done, which is said without a box.
+#[derive(Drop)]
+pub enum Rest {
+    Keep,
+    /// This node is learnt.
+    Learnt(Id),
+    /// A join that probes goes on: the sender has answered, and this is learnt.
+    Heard { sender: Id, learn: Learn },
+    Parts(Box<Parts>),
+}
+
+/// What a step changes of a node. A change is moved often and is to be small, so what few steps change is boxed. Its fields are
+/// there for the rows that plan a step and for `commit`, as those of `Parts`.
 #[derive(Drop)]
 pub struct Change {
-    pub rest: Option<Box<Rest>>,
+    pub rest: Rest,
     pub waiting: Wait,
 }
 

@@ -3,12 +3,14 @@
 ghost use Rattle.std.specs.Prelude.{◌≡◌, ◌≤◌, ◌+◌, ℕ, List, length, vec_len, vec_capacity, filter, not, ◌==◌};
 ghost use Rattle.lookup_core.specs.Kept.{StandsFor};
 ghost use Rattle.overlay_rules.specs.State.{State};
-ghost use Rattle.node_parts.specs.Change.{changed, waited, rest_changed, phase_after, gate_after, known_after, files_after, pending_after, waiting_after};
-ghost use Rattle.node_parts.specs.Fits.{Fits, RestFits, StoreFits, asks_more, waits_more};
+ghost use Rattle.node_parts.specs.Change.{changed, waited, rest_after, parts_changed, phase_after, gate_after, known_after, files_after, pending_after, waiting_after};
+ghost use Rattle.node_parts.specs.Fits.{Fits, RestFits, PartsFit, StoreFits, asks_more, waits_more};
 ghost use Rattle.node_parts.specs.Seen.{Stands};
 ghost use Rattle.node_parts.specs.Sound.{IsSound};
 
-use crate::change::{Change, GateChange, Learn, PastChange, Rest, SeatChange, StoreChange, Wait};
+use crate::change::{
+    Change, GateChange, Learn, Parts, PastChange, Rest, SeatChange, StoreChange, Wait,
+};
 use crate::lease::Lease;
 use crate::node::Node;
 use crate::seat::Seat;
@@ -23,7 +25,6 @@ fn change_seat(seat: &mut Seat, change: SeatChange)
     match change {
         SeatChange::Keep => {}
         SeatChange::To(joiner) => seat.go_to(Box::into_inner(joiner)),
-        SeatChange::Heard(sender) => seat.hear(sender),
         SeatChange::Granted(given) => seat.grant(Box::into_inner(given)),
         SeatChange::Ready {
             attempt,
@@ -119,9 +120,7 @@ impl Node {
     {
         let Change { rest, waiting } = change;
         self.commit_waiting(waiting);
-        if let Some(rest) = rest {
-            self.commit_rest(Box::into_inner(rest));
-        }
+        self.commit_rest(rest);
     }
 
     fn commit_waiting(&mut self, waiting: Wait)
@@ -138,16 +137,37 @@ impl Node {
     fn commit_rest(&mut self, rest: Rest)
         requires { RestFits self.old rest }
         ensures me { self.new.me ≡ self.old.me }
-        ensures stands { (s t : State) → Stands self.old s → rest_changed rest s ≡ t → IsSound t → Stands self.new t }
+        ensures stands { (s t : State) → Stands self.old s → rest_after rest s ≡ t → IsSound t → Stands self.new t }
     {
-        let Rest {
+        match rest {
+            Rest::Keep => {}
+            Rest::Learnt(id) => self.known.learn_all(&[id]),
+            Rest::Heard {
+                sender,
+                learn: learnt,
+            } => {
+                self.seat.hear(sender);
+                learn(&mut self.known, learnt);
+            }
+            Rest::Parts(parts) => self.commit_parts(Box::into_inner(parts)),
+        }
+    }
+
+    /// These parts are changed.
+    #[inline(never)]
+    fn commit_parts(&mut self, parts: Parts)
+        requires { PartsFit self.old parts }
+        ensures me { self.new.me ≡ self.old.me }
+        ensures stands { (s t : State) → Stands self.old s → parts_changed parts s ≡ t → IsSound t → Stands self.new t }
+    {
+        let Parts {
             seat,
             left_gate,
             right_gate,
             learn: learnt,
             store,
             past,
-        } = rest;
+        } = parts;
         change_seat(&mut self.seat, seat);
         change_gate(&mut self.left_gate, left_gate);
         change_gate(&mut self.right_gate, right_gate);

@@ -14,7 +14,7 @@ mod view;
 
 pub use build::{one_more, reply_in, send_to_each, sent_to_both};
 pub use change::{
-    Change, GateChange, Learn, PastChange, Prepared, Rest, SeatChange, StoreChange, Wait,
+    Change, GateChange, Learn, Parts, PastChange, Prepared, Rest, SeatChange, StoreChange, Wait,
 };
 pub use lease::{Lease, bare, joiner_of};
 pub use node::Node;

@@ -2,10 +2,10 @@
 
 ghost use Rattle.std.specs.Prelude.{◌≡◌, OnOk};
 ghost use Rattle.overlay_rules.specs.State.{State};
-ghost use Rattle.node_parts.specs.Fits.{Fits, RestFits, StoreFits, asks_more, waits_more};
+ghost use Rattle.node_parts.specs.Fits.{Fits, RestFits, PartsFit, StoreFits, asks_more, waits_more};
 ghost use Rattle.node_parts.specs.Seen.{Stands};
 
-use crate::change::{Change, PastChange, Rest, StoreChange, Wait};
+use crate::change::{Change, Parts, PastChange, Rest, StoreChange, Wait};
 use crate::node::Node;
 use file_store::FileStore;
 use ring_math::OutOfMemory;
@@ -46,20 +46,30 @@ impl Node {
         ensures stands { (s : State) → Stands self.old s → Stands self.new s }
         ensures fits { OnOk result (Fits self.new change.now) }
     {
-        if let Some(rest) = &change.rest {
-            self.make_rest_room(rest)?;
-        }
+        self.make_rest_room(&change.rest)?;
         self.waiting.reserve(more_waiting(&change.waiting))?;
         Ok(())
     }
 
-    /// Makes room in the files and in the inserts that wait.
+    /// Makes room for all but a number that waits.
     fn make_rest_room(&mut self, rest: &Rest) -> Result<(), OutOfMemory>
         ensures me { self.new.me ≡ self.old.me }
         ensures stands { (s : State) → Stands self.old s → Stands self.new s }
         ensures fits { OnOk result (RestFits self.new rest.now) }
     {
-        make_store_room(&mut self.store, &rest.store)?;
-        self.past.reserve(more_asks(&rest.past))
+        match rest {
+            Rest::Parts(parts) => self.make_parts_room(parts),
+            Rest::Keep | Rest::Learnt(_) | Rest::Heard { .. } => Ok(()),
+        }
+    }
+
+    /// Makes room in the files and in the inserts that wait.
+    fn make_parts_room(&mut self, parts: &Parts) -> Result<(), OutOfMemory>
+        ensures me { self.new.me ≡ self.old.me }
+        ensures stands { (s : State) → Stands self.old s → Stands self.new s }
+        ensures fits { OnOk result (PartsFit self.new parts.now) }
+    {
+        make_store_room(&mut self.store, &parts.store)?;
+        self.past.reserve(more_asks(&parts.past))
     }
 }

@@ -1,6 +1,6 @@
 //! Histories of all nodes together.
 
-ghost use Rattle.std.specs.Prelude.{◌≡◌, ◌<◌, ◌+◌, ◌++◌, ◌∷◌, [], All, OnOk, OnErr, Some, length, map, slice_get};
+ghost use Rattle.std.specs.Prelude.{◌≡◌, ◌<◌, ◌+◌, ◌++◌, ◌∷◌, [], All, IfOk, OnOk, OnErr, Some, length, map, slice_get};
 ghost use Rattle.wire_msg.specs.Words.{plain_envelope};
 ghost use Rattle.overlay_rules.specs.Record.{IsSaidBy, enveloped, sent_in};
 ghost use Rattle.overlay_rules.specs.Seen.{entry_seen, event_seen};
@@ -122,6 +122,15 @@ impl Entries {
                 notes: Vec::new(alloc),
             },
         }
+    }
+
+    /// No entry yet, and room for so many. What they send and note is given room as they are added.
+    pub fn with_room(alloc: Global, count: usize) -> Result<Entries, OutOfMemory>
+        ensures { IfOk result (λ none. none ≡ []) }
+    {
+        let mut none = Entries::new(alloc);
+        none.lists.entries.reserve_exact(count)?;
+        Ok(none)
     }
 
     /// How many there are.

@@ -7,7 +7,7 @@ ghost use Rattle.overlay_rules.specs.Flat.{CutsWell, HasRoom, SameLists, cut, ev
 ghost use Rattle.overlay_rules.specs.Seen.{entry_seen, event_seen};
 
 use crate::entry::{EntryRef, Event, EventRef};
-use ring_math::{Id, OutOfMemory};
+use ring_math::{Id, OutOfMemory, reserve_ahead};
 use std::alloc::Global;
 use wire_msg::{Envelope, Note, Outgoing};
 
@@ -68,9 +68,9 @@ impl Lists {
         ensures same { SameLists self.old self.new }
         ensures room { OnOk result (HasRoom self.new sent noted) }
     {
-        self.entries.reserve(1)?;
-        self.sent.reserve(sent)?;
-        self.notes.reserve(noted)?;
+        reserve_ahead(&mut self.entries, 1)?;
+        reserve_ahead(&mut self.sent, sent)?;
+        reserve_ahead(&mut self.notes, noted)?;
         Ok(())
     }
 

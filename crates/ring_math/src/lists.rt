@@ -139,6 +139,14 @@ impl IdsBuilder {
         true
     }
 
+    /// Adds an identifier at the end, where fewer than [`MOST_MEMBERS`] are held. It takes no memory.
+    pub fn append(&mut self, id: Id)
+        requires { length self.old < MOST_MEMBERS }
+        ensures { self.new ≡ self.old ++ id ∷ [] }
+    {
+        let _pushed = self.push(id);
+    }
+
     /// The identifiers, in the order in which they were added.
     pub fn as_slice(&self) -> &[Id]
         ensures value { result.now ≡ self.now }

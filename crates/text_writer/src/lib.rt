@@ -2,7 +2,7 @@
 //! buffer.
 #![tactic(auto)]
 
-ghost use Rattle.std.specs.Prelude.{◌≡◌, ◌<◌, ◌*◌, ◌++◌, [], decimal, length, slice_index, OnOk};
+ghost use Rattle.std.specs.Prelude.{◌≡◌, ◌<◌, ◌≤◌, ◌*◌, ◌++◌, [], decimal, drop, length, slice_index, take, OnOk};
 ghost use Rattle.hex.specs.Hex.{encode_lower, lower_digits};
 ghost use Rattle.ring_math.specs.Texts.{text_of};
 
@@ -107,8 +107,45 @@ fn digit(value: u8) -> u8
     }
 }
 
+/// How many bytes are written in hexadecimal together. Their digits fill a register of any processor that computes on vectors.
+const BLOCK: usize = 8;
+
 /// Two digits for each byte, the high four bits first.
 fn put_digits(bytes: &[u8], digits: &mut [u8])
+    requires { length digits.old ≡ 2 * length bytes.now }
+    ensures { digits.new ≡ encode_lower bytes.now }
+{
+    let behind = put_blocks(bytes, digits);
+    put_each(&bytes[behind..], &mut digits[2 * behind..]);
+}
+
+/// The digits of all whole blocks. The answer is where the bytes behind them begin.
+fn put_blocks(bytes: &[u8], digits: &mut [u8]) -> usize
+    requires { length digits.old ≡ 2 * length bytes.now }
+    ensures within { result ≤ length bytes.now }
+    ensures length { length digits.new ≡ length digits.old }
+    ensures digits { take (2 * result) digits.new ++ encode_lower (drop result bytes.now) ≡ encode_lower bytes.now }
+{
+    let mut place = 0;
+    while let Some(block) = bytes[place..].first_chunk::<BLOCK>() {
+        let end = place + BLOCK;
+        digits[2 * place..2 * end].copy_from_slice(&block_digits(block));
+        place = end;
+    }
+    place
+}
+
+/// The digits of a block. Since it is known how many they are, they are all computed at once.
+fn block_digits(block: &[u8; BLOCK]) -> [u8; 2 * BLOCK]
+    ensures { result ≡ encode_lower block.now }
+{
+    let mut digits = [0; 2 * BLOCK];
+    put_each(block, &mut digits);
+    digits
+}
+
+/// The digits of one byte after another.
+fn put_each(bytes: &[u8], digits: &mut [u8])
     requires { length digits.old ≡ 2 * length bytes.now }
     ensures { digits.new ≡ encode_lower bytes.now }
 {

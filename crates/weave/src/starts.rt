@@ -1,6 +1,6 @@
 //! Where envelopes of a stamp and a sender may stand, in a list of envelopes by stamp and then by sender.
 
-use ring_math::{Id, OutOfMemory};
+use ring_math::{Id, OutOfMemory, reserve_ahead};
 use std::alloc::Global;
 use wire_msg::Envelope;
 
@@ -36,8 +36,12 @@ impl Starts {
         let begin = self.marks.len();
         let row = stamp.min(self.last_row as u64) as usize;
         if self.rows.len() <= row {
-            self.rows.resize(row.saturating_add(1), begin)?;
+            let rows = row.saturating_add(1);
+            let more = rows.saturating_sub(self.rows.len());
+            reserve_ahead(&mut self.rows, more)?;
+            self.rows.resize(rows, begin)?;
         }
+        reserve_ahead(&mut self.marks, count)?;
         self.marks
             .resize(begin.saturating_add(count), mark_of(sender))?;
         Ok(())

@@ -83,7 +83,7 @@ fn entries_of<S: Strand>(
         IfOk result (λ entries. AllZip (IsEntryOf (sent_by (acts_in ps))) (acts_in ps) entries) }
     ensures err { let ps = map (placed (map S.history strands.old)) acts.now in IfErr result (StopsAt (sent_by (acts_in ps)) ps) }
 {
-    let mut weaving = Weaving::new(alloc, acts.len());
+    let mut weaving = Weaving::new(alloc, acts.len())?;
     for act in acts {
         weaving.look_ahead(acts, strands)?;
         weaving.add(alloc, act, strands)?;
@@ -106,17 +106,17 @@ pub(crate) struct Weaving {
 
 impl Weaving {
     /// No entry, of so many that are to come.
-    fn new(alloc: Global, count: usize) -> Weaving
-        ensures entries { result.entries ≡ [] }
-        ensures emptied { IsEmptied result }
+    fn new(alloc: Global, count: usize) -> Result<Weaving, OutOfMemory>
+        ensures entries { IfOk result (λ weaving. weaving.entries ≡ []) }
+        ensures emptied { IfOk result IsEmptied }
     {
-        Weaving {
-            entries: Entries::new(alloc),
+        Ok(Weaving {
+            entries: Entries::with_room(alloc, count)?,
             starts: Starts::new(alloc, count),
             ahead: Ahead::new(),
             messages: Vec::new(alloc),
             notes: Vec::new(alloc),
-        }
+        })
     }
 
     /// Looks at the next entries of these, if all that were looked at last are woven, and takes room for what they send and note.

@@ -39,10 +39,22 @@ impl Sends {
         &self.items
     }
 
+    /// Makes room for so many more, and for no others.
+    pub fn reserve(&mut self, more: usize) -> Result<(), OutOfMemory>
+        ensures { self.new ≡ self.old }
+    {
+        self.items.reserve_exact(more)?;
+        Ok(())
+    }
+
     pub fn push(&mut self, item: Outgoing) -> Result<(), OutOfMemory>
         ensures ok { OnOk result (self.new ≡ self.old ++ plain_sent item ∷ []) }
         ensures err { OnErr result (self.new ≡ self.old) }
     {
+        // Most steps that send anything send one message.
+        if self.items.is_empty() {
+            self.items.reserve_exact(1)?;
+        }
         self.items.push(item)?;
         Ok(())
     }

@@ -19,13 +19,10 @@ ghost use Rattle.world_model.specs.Cells.{AllStand, AreDifferent, Finds, FitsAt,
 
 use coverage::{Hop, Reach};
 use node_core::{Change, Input, Node, Prepared};
-use ring_math::{FileId, Id, OutOfMemory};
+use ring_math::{FileId, GUESS_BITS, Id, OutOfMemory, guess_of};
 use std::alloc::Global;
 use std::collections::BTreeMap;
 use std::marker::Model;
-
-/// How many of its first bits an identifier is guessed by.
-const GUESS_BITS: u32 = 10;
 
 /// Nodes with different identifiers, in the order of their setting.
 #[derive(Drop)]
@@ -220,11 +217,6 @@ fn places_of(alloc: Global, ids: &[Id]) -> Result<BTreeMap<u128, usize>, OutOfMe
         places.insert(id.0, place)?;
     }
     Ok(places)
-}
-
-/// Which guess an identifier goes by.
-fn guess_of(id: Id) -> usize {
-    (id.0 >> (u128::BITS - GUESS_BITS)) as usize
 }
 
 /// The guesses for these identifiers: of those that begin alike the last is guessed.

@@ -6,7 +6,7 @@ ghost use Rattle.overlay_rules.specs.declared.entry.Entry.{Entry as PlainEntry};
 ghost use Rattle.world_model.specs.Index.{HasRoom, IsBelow, ListsMessages, delivered_by, marked, oldest_of};
 
 use overlay_rules::Event;
-use ring_math::OutOfMemory;
+use ring_math::{OutOfMemory, reserve_ahead};
 use std::alloc::Global;
 
 /// The messages that were sent, in order: message n is the n-th, from 0.
@@ -52,7 +52,7 @@ impl Messages {
         ensures kept { (es : List PlainEntry) → ListsMessages self.old es → ListsMessages self.new es }
         ensures room { OnOk result (HasRoom self.new count) }
     {
-        self.delivered.reserve(count)?;
+        reserve_ahead(&mut self.delivered, count)?;
         Ok(())
     }
 

@@ -20,20 +20,17 @@ ghost use Rattle.node_core.specs.Pledged.{files_set, noted_at};
 
 use file_store::{Buried, FileStore};
 use join_core::{Finished, GrantStep, Joiner};
-use node_parts::{
-    Change, Learn, Node, Prepared, SeatChange, StoreChange, send_to_each, sent_to_both,
-};
+use node_parts::{Change, Node, Prepared, SeatChange, StoreChange, send_to_each, sent_to_both};
 use replica_handover::{Pledge, Taking};
 use ring_math::{Bytes, FileId, FileIds, Id, OutOfMemory};
 use std::alloc::Global;
 use wire_msg::{Answer, Message, Sends};
 
 /// An Announce: the sender is learnt.
-pub(crate) fn on_announce(alloc: Global, from: Id) -> Result<Prepared, OutOfMemory>
-    ensures { (s : State) → IfOk result (λ p. Plans s p (on_announce_of s from)) }
+pub(crate) fn on_announce(alloc: Global, from: Id) -> Prepared
+    ensures { (s : State) → Plans s result (on_announce_of s from) }
 {
-    let change = Change::seats(alloc, SeatChange::Keep, Learn::One(from))?;
-    Ok(Prepared::quiet(alloc, change))
+    Prepared::quiet(alloc, Change::learns(from))
 }
 
 /// The join is done: both leases are confirmed, and the leaves are told. These files change with it.

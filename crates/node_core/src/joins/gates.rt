@@ -10,7 +10,7 @@ ghost use Rattle.node_parts.specs.Plans.{Plans};
 
 use gate_core::Links;
 use node_parts::{
-    Change, GateChange, Learn, Lease, Node, PastChange, Prepared, Rest, SeatChange, StoreChange,
+    Change, GateChange, Learn, Lease, Node, Parts, PastChange, Prepared, SeatChange, StoreChange,
     Wait, bare,
 };
 use ring_math::{Id, OutOfMemory};
@@ -129,7 +129,7 @@ fn confirmed(
         left: after.left,
         right: after.right,
     };
-    let rest = Rest {
+    let parts = Parts {
         seat,
         left_gate: without(&node.left_gate, from, attempt),
         right_gate: without(&node.right_gate, from, attempt),
@@ -137,6 +137,6 @@ fn confirmed(
         store: StoreChange::Keep,
         past: PastChange::Keep,
     };
-    let change = Change::of(alloc, rest, Wait::Keep)?;
+    let change = Change::of(alloc, parts, Wait::Keep)?;
     Ok(Prepared::quiet(alloc, change))
 }

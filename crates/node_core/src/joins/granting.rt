@@ -17,7 +17,7 @@ use coverage::Reach;
 use file_store::FileStore;
 use gate_core::Gate;
 use node_parts::{
-    Change, GateChange, Learn, Lease, Node, PastChange, Prepared, Rest, SeatChange, StoreChange,
+    Change, GateChange, Learn, Lease, Node, Parts, PastChange, Prepared, SeatChange, StoreChange,
     Wait,
 };
 use replica_handover::{Pledge, in_gap, tombs_in_gap};
@@ -186,7 +186,7 @@ fn gates_set(
     let left_gate = set_gate(alloc, on_left, gate, lists, &node.left_gate)?;
     let on_right = node.me == gate.left;
     let right_gate = set_gate(alloc, on_right, gate, lists, &node.right_gate)?;
-    let rest = Rest {
+    let parts = Parts {
         seat: SeatChange::Keep,
         left_gate,
         right_gate,
@@ -197,5 +197,5 @@ fn gates_set(
             joiner: gate.joiner,
         },
     };
-    Change::of(alloc, rest, Wait::Keep)
+    Change::of(alloc, parts, Wait::Keep)
 }

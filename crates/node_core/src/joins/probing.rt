@@ -1,6 +1,6 @@
 //! A joiner learns who its neighbours are: the answer to its request, probes, and the answers to them.
 
-ghost use Rattle.std.specs.Prelude.{◌≡◌, IfOk, List, ℕ};
+ghost use Rattle.std.specs.Prelude.{◌≡◌, IfOk, List, ℕ, true};
 ghost use Rattle.ring_math.specs.Sides.{learn_all, leaves};
 ghost use Rattle.wire_msg.specs.Words.{LeaseRequest};
 ghost use Rattle.join_core.specs.Joining.{joiner_of};
@@ -17,8 +17,7 @@ ghost use Rattle.node_core.specs.Asked.{gone_on as gone_on_of, heard_from, probe
 use crate::sends::sent_to_each;
 use join_core::{Joiner, ProbeStep};
 use node_parts::{
-    Change, Learn, Node, Prepared, SeatChange, first_left, first_right, leaves_in, leaves_of,
-    sent_to_both,
+    Change, Learn, Node, Prepared, first_left, first_right, leaves_in, leaves_of, sent_to_both,
 };
 use ring_math::{Id, Ids, IdsBuilder, OutOfMemory};
 use std::alloc::Global;
@@ -136,14 +135,17 @@ pub(crate) fn on_probe_reply(
     heard(node, alloc, from, attempt, members)
 }
 
-/// Whether the join only goes on once this node has answered and these were learnt: each leaf was probed, and another has not
-/// answered.
+/// Whether the join only goes on once this node has answered and these were learnt: no leaf is new, each was probed, and another
+/// has not answered. Where a leaf is new it is not asked further.
 fn goes_on(node: &Node, from: Id, strangers: &[Id]) -> bool
-    ensures { (known : List ℕ) → Shows node.now known →
-        result ≡ goes_on_with (joiner_of node.now.seat) from (leaves node.now.me (learn_all node.now.me known strangers.now)) }
+    ensures { result ≡ true → (known : List ℕ) → Shows node.now known →
+        goes_on_with (joiner_of node.now.seat) from (leaves node.now.me (learn_all node.now.me known strangers.now)) ≡ true }
 {
-    let leafs = node.leafs_after(strangers);
-    let leaves = leaves_in(&leafs);
+    let leafs = node.known.leafs();
+    if leafs.lacks_any(strangers) {
+        return false;
+    }
+    let leaves = leaves_in(leafs);
     node.seat.joiner().goes_on_with(from, leaves.as_slice())
 }
 
@@ -152,8 +154,7 @@ fn only_heard(alloc: Global, from: Id, strangers: IdsBuilder) -> Result<Prepared
     ensures { (s : State) → IfOk result (λ p. Plans s p (heard_from s from strangers)) }
 {
     let learn = learning(alloc, strangers)?;
-    let change = Change::seats(alloc, SeatChange::Heard(from), learn)?;
-    Ok(Prepared::quiet(alloc, change))
+    Ok(Prepared::quiet(alloc, Change::hears(from, learn)))
 }
 
 /// These are learnt, if there are any.

@@ -1,6 +1,6 @@
 use Rattle.std.proofs.Common.{◌≡◌, ◌^◌, All, length}
 use Rattle.delivery_report.specs.Names.{IsRight}
-use Rattle.delivery_report.specs.declared.names.TheConstants.{GUESS_BITS}
+use Rattle.ring_math.specs.declared.guess.TheConstants.{GUESS_BITS}
 use Rattle.delivery_report.proofs.names.guesses_of.Given as goal
 
 -- what is guessed so far is right

@@ -21,8 +21,8 @@ pub loop-act-init : goal.loop-act-init
 loop-act-init g c =
     let sent : List Envelope = sent_by (acts_in (map (placed (map g.S.Strand.history c.args.strands.now)) c.args.acts.now)) in
     record {
-      became = subst (λ (es : List Entry). AllZip (IsEntryOf sent) [] es) (sym c.new-weaving.ensures.entries) tt;
-      emptied = c.new-weaving.ensures.emptied;
+      became = subst (λ (es : List Entry). AllZip (IsEntryOf sent) [] es) (sym c.in_ok-weaving.ensures.entries) tt;
+      emptied = c.in_ok-weaving.ensures.emptied;
       others = record { within = λ k d le lt. c.requires.within k d lt; same = λ k d le lt. refl };
     }
 

@@ -27,5 +27,5 @@ returns-then-goes_on c = λ known h.
     (same ∙ ap (learn_all s.me known) c.as_slice.ensures.value)
     (ap (λ j. is_awaited j c.args.from c.args.attempt) (sym c.joiner.ensures) ∙ sym c.awaits.ensures ∙ c.if-not-awaits.false)
     (ap (λ ids. goes_on_with (joiner_of s.phase) c.args.from (leaves s.me (learn_all s.me known ids))) (sym c.as_slice-2.ensures.value)
-    ∙ sym (c.goes_on.ensures known h) ∙ c.if-goes_on.true))
+    ∙ c.goes_on.ensures c.if-goes_on.true known h))
     (c.only_heard.ensures s)

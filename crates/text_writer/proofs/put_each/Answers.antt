@@ -1,7 +1,7 @@
 use Rattle.std.proofs.Common.{arith}
 use Rattle.hex.specs.Hex.{lower_digits}
 use Rattle.hex.proofs.Pairs.{encode_step, encode_done}
-use Rattle.text_writer.proofs.put_digits.Goals as goal
+use Rattle.text_writer.proofs.put_each.Goals as goal
 
 pub loop-place-preserved : goal.loop-place-preserved
 loop-place-preserved c =
