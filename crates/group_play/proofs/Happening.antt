@@ -22,7 +22,6 @@ use Rattle.scribe_core.specs.Record.{sent_from, sent_in, step_at, visit}
 use Rattle.scribe_core.proofs.Kept.{past_of_run, run_push}
 use Rattle.world_model.specs.Recorded.{Recorded, setting_of, world_of}
 use Rattle.group_play.specs.declared.play.Play.{Play}
-use Rattle.group_play.specs.Keys.{AreKeys}
 use Rattle.group_play.specs.Messages.{ListsMessages}
 use Rattle.group_play.specs.Playing.{CanAct, IsNewest, IsNumberedBelow, IsPlay}
 use Rattle.group_play.specs.Seats.{AreSeats, ShowParts, StepsTo}
@@ -38,7 +37,7 @@ past_of : (overlay : World) (es : List GroupEntry) → (groups_in overlay es).pa
 past_of overlay es = past_of_run overlay no_groups es
 
 -- where nothing was said before
-pub said_now : {A : Type 0} (before more now : List A) → now ≡ before ++ more → before ≡ [] → now ≡ more
+said_now : {A : Type 0} (before more now : List A) → now ≡ before ++ more → before ≡ [] → now ≡ more
 said_now before more now is none = is ∙ ap (λ xs. xs ++ more) none
 
 abbrev pub entry_said : GroupEvent → Written → GroupEntry
@@ -90,10 +89,9 @@ module _ (r : Recorded) (a b : Play) (v : GroupEvent) (at : Visit) (said : Writt
     notes = noted_now;
   }
 
-  pub still_plays : Contains r.nodes at.node → IsFresh a.writer.entries v → AreKeys b.keys → AreSeats b.seats → ListsMessages b.messages b.writer.entries →
+  pub still_plays : Contains r.nodes at.node → IsFresh a.writer.entries v → AreSeats b.seats → ListsMessages b.messages b.writer.entries →
       b.writer.messages ≡ [] → b.writer.notes ≡ [] → IsPlay r b
-  still_plays member fresh keys seats messages nothing_sent nothing_noted = record {
-    keys = keys;
+  still_plays member fresh seats messages nothing_sent nothing_noted = record {
     seats = seats;
     parts = subst (ShowParts b.seats) (sym parts_now) steps.shown;
     messages = messages;

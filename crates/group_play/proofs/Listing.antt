@@ -7,19 +7,16 @@ use Rattle.std.proofs.lemmas.Bool.Decides.{Decides-eqb}
 use Rattle.std.proofs.lemmas.List.{map-append}
 use Rattle.std.proofs.lemmas.List.Folds.{list_any-append}
 use Rattle.std.proofs.Math.ListN.{length-set}
-use Rattle.ring_math.specs.Names.{Id}
-use Rattle.ring_math.specs.Keys.{id_of}
 use Rattle.scribe_core.specs.Entry.{GroupEntry}
 use Rattle.scribe_core.specs.declared.entry.GroupEvent.{GroupEvent}
 use Rattle.scribe_core.specs.declared.entry.GroupEvent.TheVariants as event
 use Rattle.scribe_core.specs.declared.message.GroupSent.{GroupSent}
 use Rattle.scribe_core.specs.Played.{is_delivery_of, oldest_undelivered, undelivered_from, was_delivered}
-use Rattle.scribe_core.specs.Parts.{Addressed, GroupName}
-use Rattle.scribe_core.specs.Record.{sent_from, sent_in}
+use Rattle.scribe_core.specs.Record.{sent_in}
 use Rattle.scribe_core.proofs.Holding.{sent_in-push}
 use Rattle.world_model.specs.Index.{IsBelow, marked}
 use Rattle.group_play.specs.declared.messages.Messages.{Messages}
-use Rattle.group_play.specs.Messages.{HasMarks, HaveKey, ListsMessages, delivered_by, keys_of, oldest_of}
+use Rattle.group_play.specs.Messages.{HasMarks, ListsMessages, delivered_by, oldest_of}
 
 -- ---- lists
 
@@ -41,32 +38,6 @@ sent_is es all messages m read s whole none lt is same =
       get_is [] k l = absurd (omega arith)
       get_is (t ∷ xs) zero l = refl
       get_is (t ∷ xs) (suc k) l = get_is xs k (omega arith)
-
--- ---- keys
-
--- the key of a message's group
-pub key_is : (es : List GroupEntry) (a : Messages) (m : ℕ) (s : GroupSent) (d : Id) → ListsMessages a es → slice_get (sent_in es) m ≡ Some s →
-    get_or a.keys.items m d ≡ id_of s.group
-key_is es a m s d h at = ap (λ (keys : List Id). get_or keys m d) h.keys ∙ read (sent_in es) m at where
-  read : (sent : List GroupSent) (k : ℕ) → slice_get sent k ≡ Some s → get_or (keys_of sent) k d ≡ id_of s.group
-  read [] k e = cc
-  read (t ∷ sent) zero e = let same : t ≡ s = cc in ap (λ (u : GroupSent). id_of u.group) same
-  read (t ∷ sent) (suc k) e = read sent k e
-
--- what is sent from a group has the group's key
-pub have_key : (x : Id) (name : GroupName) (key : Id) (sends : List Addressed) (ms : List GroupSent) → key ≡ id_of name →
-    ms ≡ map (sent_from x name) sends → HaveKey key ms
-have_key x name key sends ms is from = subst (HaveKey key) (sym from) (each sends) where
-  each : (others : List Addressed) → HaveKey key (map (sent_from x name) others)
-  each [] = refl
-  each (a ∷ others) =
-      ap (λ (k : Id). k ∷ keys_of (map (sent_from x name) others)) (sym is) ∙ ap (λ (keys : List Id). key ∷ keys) (each others)
-
-keys_more : (keys : List Id) (es : List GroupEntry) (e : GroupEntry) (key : Id) → keys ≡ keys_of (sent_in es) → HaveKey key e.messages →
-    keys ++ replicate (length e.messages) key ≡ keys_of (sent_in (es ++ e ∷ []))
-keys_more keys es e key old new =
-    ap (λ (more : List Id). keys ++ more) (sym new) ∙ ap (λ (first : List Id). first ++ keys_of e.messages) old
-    ∙ sym (map-append (λ (s : GroupSent). id_of s.group) (sent_in es) e.messages) ∙ ap keys_of (sym (sent_in-push es e))
 
 -- ---- marks
 
@@ -130,13 +101,11 @@ marks_more marks new es e h below is = record {
 
 -- ---- all of it
 
-pub messages_more : (a b : Messages) (es : List GroupEntry) (e : GroupEntry) (key : Id) → ListsMessages a es → HaveKey key e.messages →
-    IsBelow (length a.delivered.items) (delivered_by e.event) → b.keys.items ≡ a.keys.items ++ replicate (length e.messages) key →
+pub messages_more : (a b : Messages) (es : List GroupEntry) (e : GroupEntry) → ListsMessages a es → IsBelow (length a.delivered.items) (delivered_by e.event) →
     b.delivered.items ≡ marked (delivered_by e.event) a.delivered.items ++ replicate (length e.messages) false →
     b.oldest ≤ length b.delivered.items → ((m : ℕ) → a.oldest ≤ m → m < b.oldest → get_or b.delivered.items m false ≡ true) →
     get_or b.delivered.items b.oldest false ≡ false → ListsMessages b (es ++ e ∷ [])
-messages_more a b es e key h key_is below keys marks within before here = record {
-  keys = keys ∙ keys_more a.keys.items es e key h.keys key_is;
+messages_more a b es e h below marks within before here = record {
   marks = marks_more a.delivered.items b.delivered.items es e h.marks below marks;
   oldest = record {
     within = within;

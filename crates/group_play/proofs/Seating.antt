@@ -1,10 +1,11 @@
 -- Seats: how one is found, how one more is taken, and how the part at one changes.
 use Rattle.std.proofs.Common.{◌≡◌, ◌<◌, ◌≤◌, ◌+◌, inl, inr, ℕ, Option, Some, None, List, [], ◌∷◌, ◌++◌, length, get_or}
 use Rattle.std.proofs.Common.{slice_index_or, get_or-set_same, get_or-set_other, refl, sym, ap, subst, ◌∙◌, arith}
-use Rattle.std.specs.Prelude.{◌==◌, ◌&&◌}
+use Rattle.std.specs.Prelude.{◌≢◌, ◌==◌, ◌&&◌, cond, nat_eq}
+use Rattle.std.specs.HashMap.{HashMap, get}
 use Rattle.std.specs.Str.{bytes_eq}
 use Rattle.std.proofs.Math.ListN.{set}
-use Rattle.std.proofs.lemmas.Bool.{and_parts, cases_eq, cases_lt, cond_both}
+use Rattle.std.proofs.lemmas.Bool.{and_parts, cases_eq, cases_lt, cond_both, true≢false}
 use Rattle.std.proofs.lemmas.Bool.Decides.{Decides-eqb}
 use Rattle.std.proofs.lemmas.List.{get_or_append_left, get_or_push, length_push}
 use Rattle.std.proofs.lemmas.Slice.Eq.{bytes_eq-Decides}
@@ -17,14 +18,14 @@ use Rattle.scribe_core.proofs.Holding.{part_at-itself}
 use Rattle.group_play.specs.declared.part.Part.{Part as KeptPart}
 use Rattle.group_play.specs.declared.seats.Seat.{Seat}
 use Rattle.group_play.specs.declared.seats.Seats.{Seats}
-use Rattle.group_play.specs.Seats.{AreSeats, HaveKeys, IsLastOf, IsPlaceOf, IsSeatOf, NoneFrom, ShowParts, slot_of}
+use Rattle.group_play.specs.Seats.{AreLinked, AreSeats, IsLastOf, IsPlaceOf, IsSeatOf, NoneFrom, ShowParts, slot_of}
 use Rattle.group_play.specs.Shown.{Stands}
 
 -- ---- finding
 
 -- what a seat is looked up by
-its_slot : (s : Seat) (x : Id) (name : GroupName) → s.key ≡ id_of s.group → IsSeatOf s x name → slot_of s ≡ cw_of x (id_of name)
-its_slot s x name key is = ap (cw_of s.node) (key ∙ ap id_of is.1) ∙ ap (λ (y : ℕ). cw_of y (id_of name)) is.0
+its_slot : (s : Seat) (x : Id) (name : GroupName) → IsSeatOf s x name → slot_of s ≡ cw_of x (id_of name)
+its_slot s x name is = ap (λ (other : GroupName). cw_of s.node (id_of other)) is.1 ∙ ap (λ (y : ℕ). cw_of y (id_of name)) is.0
 
 -- no seat behind this one is the node's in the group, and this one is looked up as that would be
 abbrev pub NoneBehind : List Seat → Option ℕ → Id → GroupName → Type 0
@@ -36,22 +37,82 @@ abbrev pub places_left : Option ℕ → ℕ
 places_left None = 0
 places_left (Some k) = k + 1
 
-pub none_behind : (seats : List Seat) (n : ℕ) (o : Option ℕ) (x : Id) (name : GroupName) → HaveKeys seats → n ≤ length seats →
+pub none_behind : (seats : List Seat) (n : ℕ) (o : Option ℕ) (x : Id) (name : GroupName) → n ≤ length seats →
     IsLastOf seats n (cw_of x (id_of name)) o → NoneFrom seats n x name → NoneBehind seats o x name
-none_behind seats n None x name h le last none = λ j d lo l is. elim (cases_lt j n) [
-  | inl lt ↦ last j d lt (its_slot (get_or seats j d) x name (h.each j d l) is)
+none_behind seats n None x name le last none = λ j d lo l is. elim (cases_lt j n) [
+  | inl lt ↦ last j d lt (its_slot (get_or seats j d) x name is)
   | inr ge ↦ none j d ge l is
 ]
-none_behind seats n (Some k) x name h le last none = (
+none_behind seats n (Some k) x name le last none = (
   (let lt = last.0 in omega arith),
   last.1,
   λ j d lo l is. elim (cases_lt j n) [
-    | inl lt ↦ last.2 j d (omega arith) lt (its_slot (get_or seats j d) x name (h.each j d l) is)
+    | inl lt ↦ last.2 j d (omega arith) lt (its_slot (get_or seats j d) x name is)
     | inr ge ↦ none j d ge l is
   ],
 )
 
 -- ---- taking
+
+-- the last of a number among the first of these, where one seat more stands behind all
+last_within : (seats : List Seat) (s : Seat) (n slot : ℕ) (o : Option ℕ) → n ≤ length seats → IsLastOf seats n slot o → IsLastOf (seats ++ s ∷ []) n slot o
+last_within seats s n slot None le h = λ j d lt e. h j d lt (sym (ap slot_of (get_or_append_left seats (s ∷ []) d j (omega arith))) ∙ e)
+last_within seats s n slot (Some k) le h = (
+  h.0,
+  (λ d. ap slot_of (get_or_append_left seats (s ∷ []) d k (let lt = h.0 in omega arith)) ∙ h.1 d),
+  λ j d lo lt e. h.2 j d lo lt (sym (ap slot_of (get_or_append_left seats (s ∷ []) d j (omega arith))) ∙ e),
+)
+
+-- the last of a number stays the last, where a seat of another is behind it
+last_beyond : (seats : List Seat) (s : Seat) (slot : ℕ) (o : Option ℕ) → IsLastOf seats (length seats) slot o → slot_of s ≢ slot →
+    IsLastOf (seats ++ s ∷ []) (length seats + 1) slot o
+last_beyond seats s slot None h other = λ j d lt e. elim (cases_lt j (length seats)) [
+  | inl l ↦ h j d l (sym (ap slot_of (get_or_append_left seats (s ∷ []) d j l)) ∙ e)
+  | inr ge ↦ other (sym (ap slot_of (get_or_push seats s d j (omega arith))) ∙ e)
+]
+last_beyond seats s slot (Some k) h other = (
+  (let lt = h.0 in omega arith),
+  (λ d. ap slot_of (get_or_append_left seats (s ∷ []) d k h.0) ∙ h.1 d),
+  λ j d lo lt e. elim (cases_lt j (length seats)) [
+    | inl l ↦ h.2 j d lo l (sym (ap slot_of (get_or_append_left seats (s ∷ []) d j l)) ∙ e)
+    | inr ge ↦ other (sym (ap slot_of (get_or_push seats s d j (omega arith))) ∙ e)
+  ],
+)
+
+-- the last of a number, where one seat more is behind all
+last_more : (seats : List Seat) (s : Seat) (slot : ℕ) (o p : Option ℕ) → IsLastOf seats (length seats) slot o →
+    p ≡ cond (nat_eq (slot_of s) slot) (Some (length seats)) o → IsLastOf (seats ++ s ∷ []) (length seats + 1) slot p
+last_more seats s slot o p h is =
+    let last : Option ℕ → Type 0 = IsLastOf (seats ++ s ∷ []) (length seats + 1) slot in
+    subst last (sym is)
+    (cond_both (nat_eq (slot_of s) slot) (Some (length seats)) o last
+    (λ e. (
+      omega arith,
+      (λ d. ap slot_of (get_or_push seats s d (length seats) refl) ∙ (Decides-eqb (slot_of s) slot).0 e),
+      λ j d lo lt no. absurd (omega arith),
+    ))
+    (λ e. last_beyond seats s slot o h (λ same. true≢false (sym ((Decides-eqb (slot_of s) slot).1 same) ∙ e))))
+
+-- seats stay linked with one more, which knows the last one before it of its number, and is now the last of it
+pub linked_more : {S : Type 0} (seats : List Seat) (s : Seat) (before after : HashMap ℕ ℕ S) → AreLinked seats before →
+    s.before ≡ get nat_eq before (slot_of s) →
+    ((slot : ℕ) → get nat_eq after slot ≡ cond (nat_eq (slot_of s) slot) (Some (length seats)) (get nat_eq before slot)) → AreLinked (seats ++ s ∷ []) after
+linked_more seats s before after h own updates = record {
+  last = λ slot.
+      subst (λ (n : ℕ). IsLastOf (seats ++ s ∷ []) n slot (get nat_eq after slot)) (sym (length_push seats s))
+      (last_more seats s slot (get nat_eq before slot) (get nat_eq after slot) (h.last slot) (updates slot));
+  before = λ k d l. elim (cases_lt k (length seats)) [
+    | inl lt ↦
+        subst (λ (t : Seat). IsLastOf (seats ++ s ∷ []) k (slot_of t) t.before) (sym (get_or_append_left seats (s ∷ []) d k lt))
+        (last_within seats s k _ _ (omega arith) (h.before k d lt))
+    | inr ge ↦
+        let last : length seats ≡ k = let long = length_push seats s in omega arith in
+        subst (λ (t : Seat). IsLastOf (seats ++ s ∷ []) k (slot_of t) t.before) (sym (get_or_push seats s d k last))
+        (subst (λ (n : ℕ). IsLastOf (seats ++ s ∷ []) n (slot_of s) s.before) last
+        (last_within seats s (length seats) (slot_of s) s.before (omega arith)
+        (subst (IsLastOf seats (length seats) (slot_of s)) (sym own) (h.last (slot_of s)))))
+  ];
+}
 
 -- one seat more shows no part yet
 pub shown_more : (a b : Seats) (s : Seat) (p : KeptPart) (parts : Id → GroupName → Part) → ShowParts a parts → length a.parts.items ≡ length a.items.items →
@@ -124,7 +185,7 @@ shown_set a b x name place p parts q h seats at new same kept = record {
       ]));
   others = λ y other away.
       let none : NoneFrom a.items.items 0 y other = subst (λ (xs : List Seat). NoneFrom xs 0 y other) same away in
-      let d : Seat = record { node = 0; group = []; key = 0; before = None } in
+      let d : Seat = record { node = 0; group = []; before = None } in
       part_at-other parts x name q y other (λ node group. none place d (omega arith) at.within ((at.is d).0 ∙ sym node, (at.is d).1 ∙ sym group))
       ∙ h.others y other none;
 }
@@ -133,7 +194,7 @@ shown_set a b x name place p parts q h seats at new same kept = record {
 pub stands_at : (a : Seats) (x : Id) (name : GroupName) (place : ℕ) (p : KeptPart) (parts : Id → GroupName → Part) → ShowParts a parts →
     IsPlaceOf a x name place → p ≡ get_or a.parts.items place p → Stands p (parts x name)
 stands_at a x name place p parts h at is =
-    let d : Seat = record { node = 0; group = []; key = 0; before = None } in
+    let d : Seat = record { node = 0; group = []; before = None } in
     subst (λ (q : KeptPart). Stands q (parts x name)) (sym is)
     (subst (λ (y : ℕ). Stands (get_or a.parts.items place p) (parts y name)) (at.is d).0
     (subst (λ (other : List ℕ). Stands (get_or a.parts.items place p) (parts (get_or a.items.items place d).node other)) (at.is d).1

@@ -10,13 +10,11 @@ use Rattle.scribe_core.specs.Laws.{groups_in}
 use Rattle.scribe_core.specs.Record.{IsGroupRecord}
 use Rattle.world_model.specs.Recorded.{Recorded, setting_of, world_of}
 use Rattle.group_play.specs.declared.play.Play.{Play}
-use Rattle.group_play.specs.Keys.{AreKeys}
 use Rattle.group_play.specs.Messages.{ListsMessages}
 use Rattle.group_play.specs.Seats.{AreSeats, ShowParts}
 
--- the record is legal, its messages are listed, the seats show the parts after it, what is known of keys is right, and the next entry has not begun
+-- the record is legal, its messages are listed, the seats show the parts after it, and the next entry has not begun
 pub record IsPlay (r : Recorded) (a : Play) : Type 0 where
-  pub keys : AreKeys a.keys
   pub seats : AreSeats a.seats
   pub parts : ShowParts a.seats (groups_in (world_of r) a.writer.entries).parts
   pub messages : ListsMessages a.messages a.writer.entries

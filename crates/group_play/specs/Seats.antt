@@ -16,7 +16,7 @@ use Rattle.group_play.specs.Shown.{Stands}
 
 -- the number that a seat is looked up by: the way from its node to its group's key
 abbrev pub slot_of : Seat → ℕ
-slot_of s = cw_of s.node s.key
+slot_of s = cw_of s.node (id_of s.group)
 
 -- the seat of a node in a group
 abbrev pub IsSeatOf : Seat → Id → GroupName → Type 0
@@ -33,10 +33,6 @@ pub record AreLinked {S : Type 0} (seats : List Seat) (lasts : HashMap ℕ ℕ S
   pub last : (slot : ℕ) → IsLastOf seats (length seats) slot (get nat_eq lasts slot)
   pub before : (k : ℕ) (d : Seat) → k < length seats → IsLastOf seats k (slot_of (slice_index_or seats k d)) (slice_index_or seats k d).before
 
--- each seat has its group's key
-pub record HaveKeys (seats : List Seat) : Type 0 where
-  pub each : (k : ℕ) (d : Seat) → k < length seats → (slice_index_or seats k d).key ≡ id_of (slice_index_or seats k d).group
-
 -- no node has two seats in a group
 pub record AreSingle (seats : List Seat) : Type 0 where
   pub each : (j k : ℕ) (d : Seat) → j < length seats → k < length seats →
@@ -49,7 +45,6 @@ NoneFrom seats n x name = (j : ℕ) (d : Seat) → n ≤ j → j < length seats 
 -- the seats can be looked up, and each has a part
 pub record AreSeats (a : Seats) : Type 0 where
   pub linked : AreLinked a.items.items a.last
-  pub keys : HaveKeys a.items.items
   pub single : AreSingle a.items.items
   pub count : length a.parts.items ≡ length a.items.items
 

@@ -5,8 +5,8 @@
 //! in short loops, none of which needs what another of its turns looks at: then much is waited for at once. No promise rests on this.
 
 use crate::seats::Seats;
-use ring_math::{Id, OutOfMemory, cw};
-use scribe_core::GroupSent;
+use ring_math::{Id, OutOfMemory, SPREAD, cw};
+use scribe_core::{GroupMessage, GroupSent};
 use std::alloc::Global;
 
 /// How many messages are looked at together.
@@ -15,16 +15,13 @@ const TOGETHER: usize = 16;
 /// How many bits of a number that is spread choose its hint.
 const HINT_BITS: u32 = 16;
 
-/// 2^64 divided by the golden ratio: what is multiplied by it is spread over the high bits (Knuth, multiplicative hashing).
-const SPREAD: u64 = 0x9e37_79b9_7f4a_7c15;
-
-/// To whom a message comes, the key of its group, and where the receiver's seat may stand.
+/// What was seen of a message.
 #[derive(Clone, Copy)]
 struct Sight {
-    node: Id,
-    key: Id,
+    /// Where the seat may stand to which it comes.
     guess: Option<usize>,
-    /// What was seen first of the part there. Nothing is done with it.
+    /// What was seen of the message itself, and first of the part there. Nothing is done with it.
+    is_graft: bool,
     child: Id,
     number: u64,
 }
@@ -48,43 +45,42 @@ fn hint_of(number: u128) -> usize {
     (folded.wrapping_mul(SPREAD) >> (u64::BITS - HINT_BITS)) as usize
 }
 
+/// The number by which the seat is looked up to which a message comes.
+fn slot_of(sent: &GroupSent) -> u128 {
+    cw(sent.receiver, sent.group.key())
+}
+
 impl Sight {
     fn none() -> Sight {
         Sight {
-            node: Id(0),
-            key: Id(0),
             guess: None,
+            is_graft: false,
             child: Id(0),
             number: 0,
         }
     }
 
-    /// The number by which the seat is looked up.
-    fn slot(&self) -> u128 {
-        cw(self.node, self.key)
-    }
-
     /// Whether a seat that is looked up as the message's would be stands where it is guessed.
-    fn is_right(&self, seats: &Seats) -> bool {
+    fn is_right(&self, sent: &GroupSent, seats: &Seats) -> bool {
         let Some(place) = self.guess else {
             return false;
         };
         match seats.items.get(place) {
             // Both are looked at, whatever the first says.
-            Some(seat) => (seat.node == self.node) & (seat.key == self.key),
+            Some(seat) => (seat.node == sent.receiver) & (seat.group.key() == sent.group.key()),
             None => false,
         }
     }
 
     /// Looks the seat up, and leaves a hint of where it stands.
-    fn look_up(&mut self, hints: &mut [u32], seats: &Seats) {
-        self.guess = seats.last.get(&self.slot()).copied();
-        if !self.is_right(seats) {
+    fn look_up(&mut self, hints: &mut [u32], sent: &GroupSent, seats: &Seats) {
+        self.guess = seats.last.get(&slot_of(sent)).copied();
+        if !self.is_right(sent, seats) {
             self.guess = None;
         }
         if let Some(place) = self.guess
             && let Ok(place) = u32::try_from(place)
-            && let Some(hint) = hints.get_mut(hint_of(self.slot()))
+            && let Some(hint) = hints.get_mut(hint_of(slot_of(sent)))
         {
             *hint = place;
         }
@@ -119,25 +115,24 @@ impl Ahead {
     }
 
     /// Where the seat may stand to which a message comes. If that was not looked at, it is now, and with it the messages behind, of
-    /// which so many are to be delivered with it. Each message has its group's key.
+    /// which so many are to be delivered with it.
     pub(crate) fn guess(
         &mut self,
         message: usize,
         left: u32,
-        keys: &[Id],
         sent: &[GroupSent],
         seats: &Seats,
     ) -> Result<Option<usize>, OutOfMemory> {
         if message < self.from || self.upto <= message {
             self.hints.resize(1 << HINT_BITS, 0)?;
-            let (Some(keys), Some(sent)) = (keys.get(message..), sent.get(message..)) else {
+            let Some(sent) = sent.get(message..) else {
                 return Ok(None);
             };
             let count = TOGETHER.min(left as usize).min(sent.len());
             self.from = message;
             self.upto = message.saturating_add(count);
             if let Some(sights) = self.sights.get_mut(..count) {
-                look(sights, &mut self.hints, keys, sent, seats);
+                look(sights, &mut self.hints, sent, seats);
             }
         }
         Ok(self.sights[message.saturating_sub(self.from) % TOGETHER].guess)
@@ -146,17 +141,15 @@ impl Ahead {
 
 /// It is a call of its own, since what is seen would else be taken for unused, and not be looked at.
 #[inline(never)]
-fn look(sights: &mut [Sight], hints: &mut [u32], keys: &[Id], sent: &[GroupSent], seats: &Seats) {
-    for ((sight, key), sent) in sights.iter_mut().zip(keys).zip(sent) {
-        sight.node = sent.receiver;
-        sight.key = *key;
+fn look(sights: &mut [Sight], hints: &mut [u32], sent: &[GroupSent], seats: &Seats) {
+    for (sight, sent) in sights.iter_mut().zip(sent) {
+        let hint = hints.get(hint_of(slot_of(sent)));
+        sight.guess = hint.map(|hint| *hint as usize);
+        sight.is_graft = matches!(sent.message, GroupMessage::Graft);
     }
-    for sight in sights.iter_mut() {
-        sight.guess = hints.get(hint_of(sight.slot())).map(|hint| *hint as usize);
-    }
-    for sight in sights.iter_mut() {
-        if !sight.is_right(seats) {
-            sight.look_up(hints, seats);
+    for (sight, sent) in sights.iter_mut().zip(sent) {
+        if !sight.is_right(sent, seats) {
+            sight.look_up(hints, sent, seats);
         }
     }
     for sight in sights.iter_mut() {

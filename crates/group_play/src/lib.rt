@@ -6,7 +6,7 @@
 #![tactic(auto)]
 
 mod ahead;
-mod keys;
+mod groups;
 mod messages;
 mod part;
 mod play;

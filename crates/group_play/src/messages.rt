@@ -1,19 +1,17 @@
-//! The messages of a record: the keys of their groups, and which of them were delivered.
+//! Which messages of a record were delivered.
 
 ghost use Rattle.std.specs.Prelude.{◌≡◌, ◌<◌, ◌≤◌, ◌++◌, ◌∷◌, [], ℕ, List, true, false, OnOk, length, slice_index_or, vec_len};
 ghost use Rattle.scribe_core.specs.Entry.{GroupEntry as PlainEntry};
 ghost use Rattle.scribe_core.specs.Record.{sent_in};
 ghost use Rattle.world_model.specs.Index.{IsBelow, marked};
-ghost use Rattle.group_play.specs.Messages.{HaveKey, ListsMessages, delivered_by, oldest_of};
+ghost use Rattle.group_play.specs.Messages.{ListsMessages, delivered_by, oldest_of};
 
-use ring_math::{Id, OutOfMemory};
+use ring_math::OutOfMemory;
 use std::alloc::Global;
 
 /// The messages that were sent, in order: message n is the n-th, from 0.
 #[derive(Drop)]
 pub(crate) struct Messages {
-    /// The key of each one's group.
-    pub(crate) keys: Vec<Id>,
     /// Whether each was delivered.
     pub(crate) delivered: Vec<bool>,
     /// The first that was not delivered, or their number. It only moves on.
@@ -26,10 +24,16 @@ impl Messages {
         ensures { ListsMessages result [] }
     {
         Messages {
-            keys: Vec::new(alloc),
             delivered: Vec::new(alloc),
             oldest: 0,
         }
+    }
+
+    /// How many there are.
+    pub(crate) fn len(&self) -> usize
+        ensures { result ≡ vec_len self.now.delivered }
+    {
+        self.delivered.len()
     }
 
     /// The first that was not delivered.
@@ -43,21 +47,14 @@ impl Messages {
         }
     }
 
-    /// The messages with those of one more entry: it delivered one, if any, and sent some in a group of this key. Now there are so
-    /// many.
-    pub(crate) fn add(
-        &mut self,
-        delivered: Option<u64>,
-        count: usize,
-        key: Id,
-    ) -> Result<(), OutOfMemory>
+    /// The messages with those of one more entry, which delivered one, if any. Now there are so many.
+    pub(crate) fn add(&mut self, delivered: Option<u64>, count: usize) -> Result<(), OutOfMemory>
         requires { IsBelow (vec_len self.old.delivered) delivered }
         ensures { (es : List PlainEntry) (e : PlainEntry) → ListsMessages self.old es → delivered ≡ delivered_by e.event →
-            count ≡ length (sent_in (es ++ e ∷ [])) → HaveKey key e.messages → OnOk result (ListsMessages self.new (es ++ e ∷ [])) }
+            count ≡ length (sent_in (es ++ e ∷ [])) → OnOk result (ListsMessages self.new (es ++ e ∷ [])) }
     {
         mark(&mut self.delivered, delivered);
         self.delivered.resize(count, false)?;
-        self.keys.resize(count, key)?;
         self.oldest = first_unmarked(&self.delivered, self.oldest);
         Ok(())
     }

@@ -9,11 +9,11 @@ ghost use Rattle.scribe_core.specs.Played.{acted, delivered_once, happened, play
 ghost use Rattle.scribe_core.specs.Record.{IsGroupRecord, sent_in};
 ghost use Rattle.world_model.specs.Index.{IsBelow};
 ghost use Rattle.world_model.specs.Recorded.{Recorded, setting_of, world_of};
-ghost use Rattle.group_play.specs.Messages.{HaveKey, ListsMessages, delivered_by};
+ghost use Rattle.group_play.specs.Messages.{ListsMessages, delivered_by};
 ghost use Rattle.group_play.specs.Playing.{CanAct, IsNewest, IsPlay};
 
 use crate::ahead::Ahead;
-use crate::keys::GroupKeys;
+use crate::groups::Groups;
 use crate::messages::Messages;
 use crate::seats::Seats;
 use crate::spot::Spot;
@@ -56,10 +56,10 @@ fn play_actions(
     Ok(play.writer.finish())
 }
 
-/// Groups that are played: the record so far, what is kept of its messages, the seats with the parts after it, and keys.
+/// Groups that are played: the record so far, what is kept of its messages, the seats with the parts after it, and the groups.
 #[derive(Drop)]
 pub(crate) struct Play {
-    pub(crate) keys: GroupKeys,
+    pub(crate) groups: Groups,
     pub(crate) seats: Seats,
     pub(crate) messages: Messages,
     pub(crate) writer: GroupWriter,
@@ -72,7 +72,7 @@ impl Play {
         ensures entries { result.writer.entries ≡ [] }
     {
         Play {
-            keys: GroupKeys::new(alloc),
+            groups: Groups::new(alloc),
             seats: Seats::new(alloc),
             messages: Messages::new(alloc),
             writer: GroupWriter::new(alloc),
@@ -112,7 +112,7 @@ impl Play {
         world: &World,
         number: u64,
         node: Id,
-        group: &Name,
+        name: &Name,
         command: &GroupCommand,
     ) -> Result<(), OutOfMemory>
         requires plays { IsPlay world.now self.old }
@@ -120,13 +120,12 @@ impl Play {
         requires newest { IsNewest number self.old.writer.entries }
         ensures plays { OnOk result (IsPlay world.now self.new) }
         ensures entries { OnOk result (self.new.writer.entries ≡
-            happened (world_of world.now) self.old.writer.entries (event.Command node number group.now command.now)) }
+            happened (world_of world.now) self.old.writer.entries (event.Command node number name.now command.now)) }
     {
-        let key = self.keys.key(group)?;
+        let group = self.groups.group(alloc, name)?;
         let at = Spot {
             node,
-            group,
-            key,
+            group: &group,
             guess: None,
         };
         self.seats
@@ -134,10 +133,10 @@ impl Play {
         let event = GroupEvent::Command {
             node,
             number,
-            group: group.copy(),
+            group: group.copy()?,
             command: command.copy(alloc)?,
         };
-        self.close(event, None, key)?;
+        self.close(event, None)?;
         Ok(())
     }
 
@@ -173,13 +172,7 @@ impl Play {
         message: usize,
         left: u32,
     ) -> Result<Option<usize>, OutOfMemory> {
-        ahead.guess(
-            message,
-            left,
-            &self.messages.keys,
-            self.writer.sent(),
-            &self.seats,
-        )
+        ahead.guess(message, left, self.writer.sent(), &self.seats)
     }
 
     /// A message is delivered, if it was sent.
@@ -194,7 +187,7 @@ impl Play {
         ensures plays { OnOk result (IsPlay world.now self.new) }
         ensures entries { OnOk result (self.new.writer.entries ≡ delivered_once (world_of world.now) message self.old.writer.entries) }
     {
-        if message < self.messages.keys.len() as u64 {
+        if message < self.messages.len() as u64 {
             self.deliver(alloc, world, message as usize, None)?;
         }
         Ok(())
@@ -214,13 +207,11 @@ impl Play {
         ensures plays { OnOk result (IsPlay world.now self.new) }
         ensures entries { OnOk result (self.new.writer.entries ≡ happened (world_of world.now) self.old.writer.entries (event.Deliver message)) }
     {
-        let key = self.messages.keys[message];
         let sent = &self.writer.sent()[message];
-        let sent = sent.copy(alloc)?;
+        let sent = sent.copy()?;
         let at = Spot {
             node: sent.receiver,
             group: &sent.group,
-            key,
             guess,
         };
         self.seats.message(
@@ -232,30 +223,23 @@ impl Play {
             &sent.message,
         )?;
         let message = message as u64;
-        self.close(GroupEvent::Deliver { message }, Some(message), key)?;
+        self.close(GroupEvent::Deliver { message }, Some(message))?;
         Ok(())
     }
 
-    /// The next entry is complete: it is of this event, and was in a group of this key.
-    fn close(
-        &mut self,
-        event: GroupEvent,
-        delivered: Option<u64>,
-        key: Id,
-    ) -> Result<(), OutOfMemory>
+    /// The next entry is complete: it is of this event.
+    fn close(&mut self, event: GroupEvent, delivered: Option<u64>) -> Result<(), OutOfMemory>
         requires messages { ListsMessages self.old.messages self.old.writer.entries }
         requires delivered { delivered ≡ delivered_by event }
         requires below { IsBelow (length (sent_in self.old.writer.entries)) delivered }
-        requires keys { HaveKey key self.old.writer.messages }
         ensures entries { OnOk result (self.new.writer.entries ≡
             self.old.writer.entries ++ record { event = event; messages = self.old.writer.messages; notes = self.old.writer.notes } ∷ []) }
         ensures nothing_sent { OnOk result (self.new.writer.messages ≡ []) }
         ensures nothing_noted { OnOk result (self.new.writer.notes ≡ []) }
         ensures messages { OnOk result (ListsMessages self.new.messages self.new.writer.entries) }
-        ensures keys { self.new.keys ≡ self.old.keys }
         ensures seats { self.new.seats ≡ self.old.seats }
     {
-        self.messages.add(delivered, self.writer.sent().len(), key)?;
+        self.messages.add(delivered, self.writer.sent().len())?;
         self.writer.close(event)?;
         Ok(())
     }

@@ -12,9 +12,8 @@ ghost use Rattle.group_play.specs.Shown.{HasSeen, is_barred, part_of};
 use crate::part::{Part, add_child, remove_child, see};
 use crate::spot::Spot;
 use overlay_rules::Way;
-use ring_math::{Bytes, Id, OutOfMemory};
-use scribe_core::{GroupMessage, GroupNote, GroupWriter};
-use std::alloc::Global;
+use ring_math::{Id, OutOfMemory};
+use scribe_core::{GroupMessage, GroupNote, GroupWriter, Published};
 
 impl Part {
     /// A command to subscribe.
@@ -82,12 +81,11 @@ impl Part {
     /// A command to publish.
     pub(crate) fn on_publish(
         &mut self,
-        alloc: Global,
         writer: &mut GroupWriter,
         at: &Spot<'_>,
         way: Way,
         number: u64,
-        bytes: &Bytes,
+        bytes: &Published,
     ) -> Result<(), OutOfMemory>
         ensures { (seen : List Number) → HasSeen self.old.seen seen →
             OnOk result (Gives at.now.node at.now.group.now self.new writer.old writer.new
@@ -97,11 +95,11 @@ impl Part {
             Way::NotReady | Way::Gap { .. } => writer.note(GroupNote::Refused { number }),
             Way::Here => {
                 writer.note(GroupNote::Published { number })?;
-                self.cast(alloc, writer, at, number, bytes)
+                self.cast(writer, at, number, bytes)
             }
             Way::To { node } => {
                 writer.note(GroupNote::Published { number })?;
-                pass_on(alloc, writer, at, node, number, bytes)
+                pass_on(writer, at, node, number, bytes)
             }
         }
     }
@@ -142,12 +140,11 @@ impl Part {
     /// What was published comes on its way to the root.
     pub(crate) fn on_published(
         &mut self,
-        alloc: Global,
         writer: &mut GroupWriter,
         at: &Spot<'_>,
         way: Way,
         number: u64,
-        bytes: &Bytes,
+        bytes: &Published,
     ) -> Result<(), OutOfMemory>
         ensures { (seen : List Number) → HasSeen self.old.seen seen →
             OnOk result (Gives at.now.node at.now.group.now self.new writer.old writer.new
@@ -155,19 +152,18 @@ impl Part {
     {
         match way {
             Way::NotReady | Way::Gap { .. } => Ok(()),
-            Way::Here => self.cast(alloc, writer, at, number, bytes),
-            Way::To { node } => pass_on(alloc, writer, at, node, number, bytes),
+            Way::Here => self.cast(writer, at, number, bytes),
+            Way::To { node } => pass_on(writer, at, node, number, bytes),
         }
     }
 
     /// What was not seen is heard by a member, and goes to each child.
     pub(crate) fn cast(
         &mut self,
-        alloc: Global,
         writer: &mut GroupWriter,
         at: &Spot<'_>,
         number: u64,
-        bytes: &Bytes,
+        bytes: &Published,
     ) -> Result<(), OutOfMemory>
         ensures { (seen : List Number) → HasSeen self.old.seen seen →
             OnOk result (Gives at.now.node at.now.group.now self.new writer.old writer.new (cast at.now.group.now (part_of self.old seen) number bytes.now)) }
@@ -175,9 +171,9 @@ impl Part {
         if !see(&mut self.seen, number)? {
             return Ok(());
         }
-        cast_to(alloc, writer, at, &self.children, number, bytes)?;
+        cast_to(writer, at, &self.children, number, bytes)?;
         if self.is_member {
-            writer.note(heard(alloc, at, number, bytes)?)?;
+            writer.note(heard(at, number, bytes)?)?;
         }
         Ok(())
     }
@@ -185,12 +181,11 @@ impl Part {
 
 /// A Cast to each of these, in their order.
 fn cast_to(
-    alloc: Global,
     writer: &mut GroupWriter,
     at: &Spot<'_>,
     children: &[Id],
     number: u64,
-    bytes: &Bytes,
+    bytes: &Published,
 ) -> Result<(), OutOfMemory>
     ensures entries { writer.new.entries ≡ writer.old.entries }
     ensures messages { OnOk result (writer.new.messages ≡
@@ -200,7 +195,7 @@ fn cast_to(
     for child in children {
         let message = GroupMessage::Cast {
             number,
-            bytes: bytes.copy(alloc)?,
+            bytes: bytes.copy()?,
         };
         at.send(writer, *child, message)?;
     }
@@ -208,24 +203,23 @@ fn cast_to(
 }
 
 /// A member's note of what it hears.
-fn heard(alloc: Global, at: &Spot<'_>, number: u64, bytes: &Bytes) -> Result<GroupNote, OutOfMemory>
+fn heard(at: &Spot<'_>, number: u64, bytes: &Published) -> Result<GroupNote, OutOfMemory>
     ensures { IfOk result (λ note. note ≡ GroupNote.Heard at.now.group.now number bytes.now) }
 {
     Ok(GroupNote::Heard {
-        group: at.group.copy(),
+        group: at.group.copy()?,
         number,
-        bytes: bytes.copy(alloc)?,
+        bytes: bytes.copy()?,
     })
 }
 
 /// What was published goes on to the next node on the way to the root.
 fn pass_on(
-    alloc: Global,
     writer: &mut GroupWriter,
     at: &Spot<'_>,
     receiver: Id,
     number: u64,
-    bytes: &Bytes,
+    bytes: &Published,
 ) -> Result<(), OutOfMemory>
     ensures entries { writer.new.entries ≡ writer.old.entries }
     ensures messages { OnOk result (writer.new.messages ≡
@@ -234,7 +228,7 @@ fn pass_on(
 {
     let message = GroupMessage::Publish {
         number,
-        bytes: bytes.copy(alloc)?,
+        bytes: bytes.copy()?,
     };
     at.send(writer, receiver, message)
 }

@@ -2,7 +2,6 @@
 
 ghost use Rattle.std.specs.Prelude.{◌≡◌, Contains, IfOk, IfSome, MatchOption, OnOk};
 ghost use Rattle.std.specs.Bool.{Decides};
-ghost use Rattle.ring_math.specs.Keys.{id_of};
 ghost use Rattle.ring_math.specs.Names.{Id as PlainId};
 ghost use Rattle.scribe_core.specs.Parts.{GroupName, Part as PlainPart, Command, Comes, no_part};
 ghost use Rattle.world_model.specs.Recorded.{world_of};
@@ -11,8 +10,7 @@ ghost use Rattle.group_play.specs.Seats.{AreSeats, IsPlaceOf, IsSeatOf, NoneFrom
 use crate::part::Part;
 use crate::spot::Spot;
 use ring_math::{Id, OutOfMemory, cw};
-use scenario_reader::Name;
-use scribe_core::{GroupCommand, GroupMessage, GroupWriter};
+use scribe_core::{Group, GroupCommand, GroupMessage, GroupWriter};
 use std::alloc::Global;
 use std::collections::HashMap;
 use world_model::World;
@@ -21,9 +19,7 @@ use world_model::World;
 #[derive(Drop)]
 pub(crate) struct Seat {
     pub(crate) node: Id,
-    pub(crate) group: Name,
-    /// The group's key.
-    pub(crate) key: Id,
+    pub(crate) group: Group,
     /// The last seat before this one that is looked up by the same number.
     pub(crate) before: Option<usize>,
 }
@@ -63,7 +59,6 @@ impl Seats {
         command: &GroupCommand,
     ) -> Result<(), OutOfMemory>
         requires seats { AreSeats self.old }
-        requires key { at.now.key ≡ id_of at.now.group.now }
         requires member { Contains world.now.nodes at.now.node }
         ensures seats { OnOk result (AreSeats self.new) }
         ensures steps { (parts : PlainId → GroupName → PlainPart) → ShowParts self.old parts →
@@ -87,7 +82,6 @@ impl Seats {
         message: &GroupMessage,
     ) -> Result<(), OutOfMemory>
         requires seats { AreSeats self.old }
-        requires key { at.now.key ≡ id_of at.now.group.now }
         requires member { Contains world.now.nodes at.now.node }
         ensures seats { OnOk result (AreSeats self.new) }
         ensures steps { (parts : PlainId → GroupName → PlainPart) → ShowParts self.old parts →
@@ -96,14 +90,13 @@ impl Seats {
     {
         let place = self.place(alloc, at)?;
         let part = &mut self.parts[place];
-        part.message(alloc, writer, world, at, sender, message)?;
+        part.message(writer, world, at, sender, message)?;
         Ok(())
     }
 
     /// The place of a node's seat in a group, which is taken if it was not.
     fn place(&mut self, alloc: Global, at: &Spot<'_>) -> Result<usize, OutOfMemory>
         requires seats { AreSeats self.old }
-        requires key { at.now.key ≡ id_of at.now.group.now }
         ensures seats { OnOk result (AreSeats self.new) }
         ensures parts { OnOk result ((parts : PlainId → GroupName → PlainPart) → ShowParts self.old parts → ShowParts self.new parts) }
         ensures place { IfOk result (IsPlaceOf self.new at.now.node at.now.group.now) }
@@ -117,13 +110,12 @@ impl Seats {
     /// The place of a node's seat in a group, None exactly where it has none.
     fn find(&self, at: &Spot<'_>) -> Option<usize>
         requires seats { AreSeats self.now }
-        requires key { at.now.key ≡ id_of at.now.group.now }
         ensures { MatchOption result (NoneFrom self.now.items.items 0 at.now.node at.now.group.now) (IsPlaceOf self.now at.now.node at.now.group.now) }
     {
         if let Some(place) = self.guessed(at) {
             return Some(place);
         }
-        let mut next = self.last.get(&cw(at.node, at.key)).copied();
+        let mut next = self.last.get(&cw(at.node, at.group.key())).copied();
         while let Some(place) = next {
             let seat = &self.items[place];
             if is_seat_of(seat, at) {
@@ -146,18 +138,17 @@ impl Seats {
     /// A seat for a node that has none in the group.
     fn take(&mut self, alloc: Global, at: &Spot<'_>) -> Result<usize, OutOfMemory>
         requires seats { AreSeats self.old }
-        requires key { at.now.key ≡ id_of at.now.group.now }
         requires new { NoneFrom self.old.items.items 0 at.now.node at.now.group.now }
         ensures seats { OnOk result (AreSeats self.new) }
         ensures parts { OnOk result ((parts : PlainId → GroupName → PlainPart) → ShowParts self.old parts → ShowParts self.new parts) }
         ensures place { IfOk result (IsPlaceOf self.new at.now.node at.now.group.now) }
     {
+        let group = at.group.copy()?;
         let place = self.items.len();
-        let before = self.last.insert(cw(at.node, at.key), place)?;
+        let before = self.last.insert(cw(at.node, group.key()), place)?;
         self.items.push(Seat {
             node: at.node,
-            group: at.group.copy(),
-            key: at.key,
+            group,
             before,
         })?;
         self.parts.push(Part::new(alloc))?;

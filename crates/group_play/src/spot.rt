@@ -6,15 +6,13 @@ ghost use Rattle.scribe_core.specs.Record.{sent_from};
 ghost use Rattle.group_play.specs.Said.{grafts, prunes};
 
 use ring_math::{Id, OutOfMemory};
-use scenario_reader::Name;
-use scribe_core::{GroupMessage, GroupSent, GroupWriter};
+use scribe_core::{Group, GroupMessage, GroupSent, GroupWriter};
 
-/// A node and a group, in which a step is made, the group's key, and where the node's seat in the group may stand.
+/// A node and a group, in which a step is made, and where the node's seat in the group may stand.
 #[derive(Clone, Copy)]
 pub(crate) struct Spot<'a> {
     pub(crate) node: Id,
-    pub(crate) group: &'a Name,
-    pub(crate) key: Id,
+    pub(crate) group: &'a Group,
     pub(crate) guess: Option<usize>,
 }
 
@@ -34,7 +32,7 @@ impl Spot<'_> {
         writer.send(GroupSent {
             sender: self.node,
             receiver,
-            group: self.group.copy(),
+            group: self.group.copy()?,
             message,
         })
     }

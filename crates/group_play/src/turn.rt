@@ -1,7 +1,6 @@
 //! The step of a part: by what comes, the rule that it takes.
 
 ghost use Rattle.std.specs.Prelude.{◌≡◌, Contains, OnOk, List};
-ghost use Rattle.ring_math.specs.Keys.{id_of};
 ghost use Rattle.ring_math.specs.Names.{Number};
 ghost use Rattle.scribe_core.specs.Record.{way_in};
 ghost use Rattle.scribe_core.specs.Step.{on_command, on_message};
@@ -13,7 +12,7 @@ use crate::part::Part;
 use crate::spot::Spot;
 use crate::way::way_from;
 use ring_math::{Id, OutOfMemory};
-use scribe_core::{GroupCommand, GroupMessage, GroupWriter};
+use scribe_core::{GroupCommand, GroupMessage, GroupWriter, Published};
 use std::alloc::Global;
 use world_model::World;
 
@@ -28,20 +27,20 @@ impl Part {
         number: u64,
         command: &GroupCommand,
     ) -> Result<(), OutOfMemory>
-        requires key { at.now.key ≡ id_of at.now.group.now }
         requires member { Contains world.now.nodes at.now.node }
         ensures { (seen : List Number) → HasSeen self.old.seen seen → OnOk result (Gives at.now.node at.now.group.now self.new writer.old writer.new
             (on_command (way_in (world_of world.now) at.now.node at.now.group.now) at.now.group.now (part_of self.old seen) number command.now)) }
     {
         match command {
             GroupCommand::Subscribe => {
-                let way = way_from(world, at.node, at.key);
+                let way = way_from(world, at.node, at.group.key());
                 self.on_subscribe(writer, at, way, number)
             }
             GroupCommand::Leave => self.on_leave(writer, at, number),
             GroupCommand::Publish { bytes } => {
-                let way = way_from(world, at.node, at.key);
-                self.on_publish(alloc, writer, at, way, number, bytes)
+                let way = way_from(world, at.node, at.group.key());
+                let bytes = Published::of(alloc, bytes)?;
+                self.on_publish(writer, at, way, number, &bytes)
             }
         }
     }
@@ -49,29 +48,27 @@ impl Part {
     /// A message comes.
     pub(crate) fn message(
         &mut self,
-        alloc: Global,
         writer: &mut GroupWriter,
         world: &World,
         at: &Spot<'_>,
         sender: Id,
         message: &GroupMessage,
     ) -> Result<(), OutOfMemory>
-        requires key { at.now.key ≡ id_of at.now.group.now }
         requires member { Contains world.now.nodes at.now.node }
         ensures { (seen : List Number) → HasSeen self.old.seen seen → OnOk result (Gives at.now.node at.now.group.now self.new writer.old writer.new
             (on_message (way_in (world_of world.now) at.now.node at.now.group.now) at.now.group.now (part_of self.old seen) sender message.now)) }
     {
         match message {
             GroupMessage::Graft => {
-                let way = way_from(world, at.node, at.key);
+                let way = way_from(world, at.node, at.group.key());
                 self.on_graft(writer, at, way, sender)
             }
             GroupMessage::Prune => self.on_prune(writer, at, sender),
             GroupMessage::Publish { number, bytes } => {
-                let way = way_from(world, at.node, at.key);
-                self.on_published(alloc, writer, at, way, *number, bytes)
+                let way = way_from(world, at.node, at.group.key());
+                self.on_published(writer, at, way, *number, bytes)
             }
-            GroupMessage::Cast { number, bytes } => self.cast(alloc, writer, at, *number, bytes),
+            GroupMessage::Cast { number, bytes } => self.cast(writer, at, *number, bytes),
         }
     }
 }

@@ -6,6 +6,7 @@
 ghost use Rattle.std.specs.Prelude.{◌<◌};
 ghost use Rattle.group_reader.specs.declared.guesses.TheConstants.{GUESSES};
 
+use ring_math::SPREAD;
 use scenario_reader::NodeLine;
 
 /// How many bits of a name that is spread choose its guess.
@@ -13,9 +14,6 @@ const GUESS_BITS: u32 = 10;
 
 /// How many guesses there are: four times as many as nodes at most, so that few names are spread alike.
 const GUESSES: usize = 1 << GUESS_BITS;
-
-/// 2^64 divided by the golden ratio: what is multiplied by it is spread over the high bits (Knuth, multiplicative hashing).
-const SPREAD: u64 = 0x9e37_79b9_7f4a_7c15;
 
 /// For each value of so many bits the place of a node whose name is spread to it, if there is one.
 #[derive(Drop)]

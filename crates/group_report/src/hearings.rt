@@ -6,9 +6,10 @@ ghost use Rattle.scribe_core.specs.Seen.{entry_seen, event_seen};
 ghost use Rattle.group_report.specs.Hearings.{entry_lines, hearing_line, hearing_lines};
 
 use delivery_report::{NodeNames, put_bytes};
-use ring_math::{Bytes, Id, OutOfMemory};
-use scenario_reader::Name;
-use scribe_core::{GroupEntryRef, GroupEventRef, GroupNote, GroupRecord, GroupSent};
+use ring_math::{Id, OutOfMemory};
+use scribe_core::{
+    Group, GroupEntryRef, GroupEventRef, GroupNote, GroupRecord, GroupSent, Published,
+};
 use text_writer::Text;
 
 /// Writes a line for each publication that a member heard.
@@ -91,9 +92,9 @@ fn put_hearing(
     text: &mut Text,
     names: &NodeNames<'_>,
     node: Id,
-    group: &Name,
+    group: &Group,
     number: u64,
-    bytes: &Bytes,
+    bytes: &Published,
 ) -> Result<(), OutOfMemory>
     ensures { OnOk result (text.new ≡ text.old ++ hearing_line names.now node (GroupNote.Heard group.now number bytes.now)) }
 {

@@ -3,10 +3,10 @@
 ghost use Rattle.std.specs.Prelude.{◌≡◌};
 ghost use Rattle.scribe_core.specs.Seen.{event_seen};
 
+use crate::group::Group;
 use crate::message::{GroupCommand, GroupSent};
 use crate::note::GroupNote;
 use ring_math::Id;
-use scenario_reader::Name;
 
 /// What happens at a node.
 #[derive(Drop)]
@@ -15,7 +15,7 @@ pub enum GroupEvent {
     Command {
         node: Id,
         number: u64,
-        group: Name,
+        group: Group,
         command: GroupCommand,
     },
     /// The message of this number, counted from 0 in the order in which all were sent, comes to its receiver.
@@ -51,7 +51,7 @@ pub enum GroupEventRef<'a> {
     Command {
         node: Id,
         number: u64,
-        group: &'a Name,
+        group: &'a Group,
         command: &'a GroupCommand,
     },
     Deliver {

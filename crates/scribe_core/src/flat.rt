@@ -1,13 +1,13 @@
 //! How a group record keeps its entries: in three lists, so that no entry has memory of its own.
 
-ghost use Rattle.std.specs.Prelude.{◌≡◌, ◌<◌, ◌≤◌, Some, length, slice_get, slice_range, IfOk};
+ghost use Rattle.std.specs.Prelude.{◌≡◌, ◌<◌, ◌≤◌, ◌++◌, ◌∷◌, [], Some, length, slice_get, slice_range, IfOk, OnErr, OnOk};
 ghost use Rattle.scribe_core.specs.Flat.{AreInOrder, cut, event_kept, noted_ends, sent_ends, start_of};
 ghost use Rattle.scribe_core.specs.Seen.{entry_seen, event_seen};
 
 use crate::entry::{GroupEntryRef, GroupEvent, GroupEventRef};
 use crate::message::GroupSent;
 use crate::note::GroupNote;
-use ring_math::OutOfMemory;
+use ring_math::{OutOfMemory, reserve_ahead};
 use std::alloc::Global;
 
 /// An event in little room. Most events deliver a message; the others are boxed, so that they do not cost each entry their size.
@@ -102,4 +102,14 @@ fn between<T>(items: &[T], start: usize, end: usize) -> &[T]
     ensures { result.now ≡ slice_range items.now start end }
 {
     &items[start..end]
+}
+
+/// Adds an item at the end of a list, which goes on growing.
+pub(crate) fn add<T: Drop>(list: &mut Vec<T>, item: T) -> Result<(), OutOfMemory>
+    ensures added { OnOk result (list.new.items ≡ list.old.items ++ item ∷ []) }
+    ensures kept { OnErr result (list.new.items ≡ list.old.items) }
+{
+    reserve_ahead(list, 1)?;
+    list.push(item)?;
+    Ok(())
 }

@@ -7,18 +7,22 @@
 mod action;
 mod entry;
 mod flat;
+mod group;
 mod group_record;
 mod laws;
 mod message;
 mod note;
+mod published;
 mod writer;
 
 pub use action::{GroupAction, GroupWhat};
 pub use entry::{GroupEntryRef, GroupEvent, GroupEventRef};
+pub use group::Group;
 pub use group_record::GroupRecord;
 pub use laws::groups_law;
 pub use message::{GroupCommand, GroupMessage, GroupSent};
 pub use note::GroupNote;
+pub use published::Published;
 pub use writer::GroupWriter;
 
 #[cfg(test)]

@@ -1,9 +1,11 @@
-//! What members of groups are told to do, and what nodes say to each other for it. In copies the bytes are shared.
+//! What members of groups are told to do, and what nodes say to each other for it. In copies the group and the bytes are
+//! shared.
 
 ghost use Rattle.std.specs.Prelude.{◌≡◌, IfOk};
 
+use crate::group::Group;
+use crate::published::Published;
 use ring_math::{Bytes, Id, OutOfMemory};
-use scenario_reader::Name;
 use std::alloc::Global;
 
 /// What a node is told to do in a group.
@@ -40,13 +42,13 @@ pub enum GroupMessage {
     /// I am your child no longer.
     Prune,
     /// Bytes on their way to the root, with the number of the command that published them.
-    Publish { number: u64, bytes: Bytes },
+    Publish { number: u64, bytes: Published },
     /// Bytes on their way down from the root, with the number of the command that published them.
-    Cast { number: u64, bytes: Bytes },
+    Cast { number: u64, bytes: Published },
 }
 
 impl GroupMessage {
-    fn copy(&self, alloc: Global) -> Result<GroupMessage, OutOfMemory>
+    fn copy(&self) -> Result<GroupMessage, OutOfMemory>
         ensures { IfOk result (λ copy. copy ≡ self.now) }
     {
         Ok(match self {
@@ -54,11 +56,11 @@ impl GroupMessage {
             GroupMessage::Prune => GroupMessage::Prune,
             GroupMessage::Publish { number, bytes } => GroupMessage::Publish {
                 number: *number,
-                bytes: bytes.copy(alloc)?,
+                bytes: bytes.copy()?,
             },
             GroupMessage::Cast { number, bytes } => GroupMessage::Cast {
                 number: *number,
-                bytes: bytes.copy(alloc)?,
+                bytes: bytes.copy()?,
             },
         })
     }
@@ -69,20 +71,20 @@ impl GroupMessage {
 pub struct GroupSent {
     pub sender: Id,
     pub receiver: Id,
-    pub group: Name,
+    pub group: Group,
     pub message: GroupMessage,
 }
 
 impl GroupSent {
     /// The same message.
-    pub fn copy(&self, alloc: Global) -> Result<GroupSent, OutOfMemory>
+    pub fn copy(&self) -> Result<GroupSent, OutOfMemory>
         ensures { IfOk result (λ copy. copy ≡ self.now) }
     {
         Ok(GroupSent {
             sender: self.sender,
             receiver: self.receiver,
-            group: self.group.copy(),
-            message: self.message.copy(alloc)?,
+            group: self.group.copy()?,
+            message: self.message.copy()?,
         })
     }
 }

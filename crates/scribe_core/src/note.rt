@@ -1,7 +1,7 @@
 //! What a node notes of groups.
 
-use ring_math::Bytes;
-use scenario_reader::Name;
+use crate::group::Group;
+use crate::published::Published;
 
 /// What a node notes: what became of a command of its own user, and what it hears as a member.
 #[derive(Drop)]
@@ -24,8 +24,8 @@ pub enum GroupNote {
     },
     /// What was published in a group of which the node is a member, with the number of the command that published it.
     Heard {
-        group: Name,
+        group: Group,
         number: u64,
-        bytes: Bytes,
+        bytes: Published,
     },
 }

@@ -1,6 +1,6 @@
 //! The law has callers: group records that are legal by computation.
 
-use crate::{GroupCommand, GroupEvent, GroupNote, GroupWriter, groups_law};
+use crate::{Group, GroupCommand, GroupEvent, GroupNote, GroupWriter, groups_law};
 use overlay_rules::Entries;
 use ring_math::Id;
 use scenario_reader::Name;
@@ -15,7 +15,8 @@ fn holds_of_no_entries(rt: HostRuntime) {
 
 #[test]
 fn holds_of_a_node_that_is_not_ready(rt: HostRuntime) -> Result<(), Fail> {
-    let group = Name::new(b"news").ok_or("no name")?;
+    let name = Name::new(b"news").ok_or("no name")?;
+    let group = Group::new(rt.alloc(), &name)?;
     let mut writer = GroupWriter::new(rt.alloc());
     writer.note(GroupNote::Refused { number: 1 })?;
     writer.close(GroupEvent::Command {

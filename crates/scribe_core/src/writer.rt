@@ -5,7 +5,7 @@ ghost use Rattle.scribe_core.specs.Entry.{nothing_written};
 ghost use Rattle.scribe_core.specs.Record.{sent_in};
 
 use crate::entry::GroupEvent;
-use crate::flat::{CompactEntry, CompactEvent, Lists};
+use crate::flat::{CompactEntry, CompactEvent, Lists, add};
 use crate::group_record::GroupRecord;
 use crate::message::GroupSent;
 use crate::note::GroupNote;
@@ -50,7 +50,7 @@ impl GroupWriter {
         ensures messages { OnOk result (self.new.messages ≡ self.old.messages ++ message ∷ []) }
         ensures notes { self.new.notes ≡ self.old.notes }
     {
-        self.lists.sent.push(message)?;
+        add(&mut self.lists.sent, message)?;
         Ok(())
     }
 
@@ -60,7 +60,7 @@ impl GroupWriter {
         ensures messages { self.new.messages ≡ self.old.messages }
         ensures notes { OnOk result (self.new.notes ≡ self.old.notes ++ note ∷ []) }
     {
-        self.lists.notes.push(note)?;
+        add(&mut self.lists.notes, note)?;
         Ok(())
     }
 
@@ -72,11 +72,12 @@ impl GroupWriter {
         ensures notes { OnOk result (self.new.notes ≡ []) }
     {
         let event = CompactEvent::of(event, *self.lists.sent.allocator())?;
-        self.lists.entries.push(CompactEntry {
+        let entry = CompactEntry {
             event,
             sent_end: self.lists.sent.len(),
             noted_end: self.lists.notes.len(),
-        })?;
+        };
+        add(&mut self.lists.entries, entry)?;
         Ok(())
     }
 

@@ -1,8 +1,5 @@
 use Rattle.std.proofs.Common.{◌≡◌, ◌<◌, ◌≤◌, ◌+◌, ◌++◌, ◌∙◌, ℕ, Option, List, Bool, true, false, arith, length, length-append, ap, subst, get_or}
 use Rattle.std.proofs.Common.{replicate}
-use Rattle.std.proofs.lemmas.List.{length-map}
-use Rattle.ring_math.specs.Keys.{id_of}
-use Rattle.ring_math.specs.Names.{Id}
 use Rattle.scribe_core.specs.declared.message.GroupSent.{GroupSent}
 use Rattle.scribe_core.specs.Record.{sent_in}
 use Rattle.scribe_core.proofs.Holding.{sent_in-push}
@@ -12,21 +9,16 @@ use Rattle.group_play.proofs.Listing.{grown, marked-length, messages_more}
 use Rattle.group_play.proofs.messages.Messages.add.Goals as goal
 
 pub returns : goal.returns
-returns c = λ es e h d n key_is.
+returns c = λ es e h d n.
     let old : List Bool = c.args.self.now.delivered.items in
     let marks : c.mark.new.marks.items ≡ marked (delivered_by e.event) old = c.mark.ensures ∙ ap (λ (o : Option ℕ). marked o old) d in
     let long : length c.mark.new.marks.items ≡ length (sent_in es) =
     ap (λ (ms : List Bool). length ms) marks ∙ marked-length (delivered_by e.event) old ∙ h.marks.count in
-    let listed : length c.args.self.now.keys.items ≡ length (sent_in es) =
-    ap (λ (ks : List Id). length ks) h.keys ∙ length-map (sent_in es) (λ (s : GroupSent). id_of s.group) in
     let count : c.args.count ≡ length (sent_in es) + length e.messages =
     n ∙ ap (λ (ss : List GroupSent). length ss) (sent_in-push es e) ∙ length-append (sent_in es) e.messages in
     let seen = c.deref.ensures.value in
-    messages_more c.args.self.now (record { keys = c.resize-2.new.self; delivered = c.resize.new.self; oldest = c.first_unmarked-self.result }) es e
-    c.args.key h key_is
+    messages_more c.args.self.now (record { delivered = c.resize.new.self; oldest = c.first_unmarked-self.result }) es e h
     (subst (λ (o : Option ℕ). IsBelow (length old) o) d (subst (λ m. IsBelow m c.args.delivered) c.args.self.now.delivered.ok.0 c.requires))
-    (grown c.args.self.now.keys.items c.resize-2.new.self.items _ c.args.count (length e.messages) c.args.key c.in_ok-resize-2.ensures.items
-    c.args.self.now.keys.ok.0 (let a = listed in let b = count in omega arith))
     (grown c.mark.new.marks.items c.resize.new.self.items _ c.args.count (length e.messages) false c.in_ok-resize.ensures.items
     c.mark.new.marks.ok.0 (let a = long in let b = count in omega arith)
     ∙ ap (λ (ms : List Bool). ms ++ replicate (length e.messages) false) marks)

@@ -12,4 +12,4 @@ returns-clause-messages c =
     let e : GroupEntry = entry_said c.args.event w in
     subst (λ (es : List GroupEntry). ListsMessages c.add.new.self es) (sym c.in_ok-close.ensures.entries)
     (c.in_ok-add.ensures w.entries e c.requires.messages c.requires.delivered
-    (ap (λ (ms : List GroupSent). length ms) (c.sent.ensures ∙ sym (sent_in-push w.entries e))) c.requires.keys)
+    (ap (λ (ms : List GroupSent). length ms) (c.sent.ensures ∙ sym (sent_in-push w.entries e))))

@@ -7,18 +7,10 @@ use Rattle.scribe_core.specs.Record.{Visit, visit_of}
 use Rattle.scribe_core.proofs.Receivers.{receiver_is_node}
 use Rattle.world_model.specs.Recorded.{setting_of, world_of}
 use Rattle.group_play.specs.declared.seats.Seats.{Seats}
-use Rattle.group_play.specs.Keys.{AreKeys}
 use Rattle.group_play.specs.Seats.{AreSeats, StepsTo}
-use Rattle.group_play.proofs.Happening.{is_happened, said_now, still_plays}
-use Rattle.group_play.proofs.Listing.{have_key, key_is, sent_is}
+use Rattle.group_play.proofs.Happening.{is_happened, still_plays}
+use Rattle.group_play.proofs.Listing.{sent_is}
 use Rattle.group_play.proofs.play.Play.deliver.Goals as goal
-
-pub message-requires-clause-key : goal.message-requires-clause-key
-message-requires-clause-key c =
-    let is = sent_is c.args.self.now.writer.entries c.sent.result.now c.args.self.now.writer.messages c.args.message c.index-sent-message.result
-    c.in_ok-sent.sent c.sent.ensures c.requires.plays.nothing_sent c.requires.sent c.index-sent-message.is c.in_ok-sent.ensures in
-    c.index-key.ensures
-    ∙ key_is c.args.self.now.writer.entries c.args.self.now.messages c.args.message c.in_ok-sent.sent c.index-key.result.now c.requires.plays.messages is
 
 pub message-requires-clause-member : goal.message-requires-clause-member
 message-requires-clause-member c =
@@ -26,17 +18,6 @@ message-requires-clause-member c =
     c.in_ok-sent.sent c.sent.ensures c.requires.plays.nothing_sent c.requires.sent c.index-sent-message.is c.in_ok-sent.ensures in
     receiver_is_node (setting_of c.args.world.now) c.args.world.now.entries c.args.self.now.writer.entries c.requires.legal c.requires.plays.legal
     c.args.message c.in_ok-sent.sent is
-
-pub close-requires-clause-keys : goal.close-requires-clause-keys
-close-requires-clause-keys c =
-    let is = sent_is c.args.self.now.writer.entries c.sent.result.now c.args.self.now.writer.messages c.args.message c.index-sent-message.result
-    c.in_ok-sent.sent c.sent.ensures c.requires.plays.nothing_sent c.requires.sent c.index-sent-message.is c.in_ok-sent.ensures in
-    have_key c.in_ok-sent.sent.receiver c.in_ok-sent.sent.group c.index-key.result.now _ _
-    (c.index-key.ensures
-    ∙ key_is c.args.self.now.writer.entries c.args.self.now.messages c.args.message c.in_ok-sent.sent c.index-key.result.now c.requires.plays.messages is)
-    (said_now c.args.self.now.writer.messages _ _
-    (c.in_ok-message.ensures.steps (groups_in (world_of c.args.world.now) c.args.self.now.writer.entries).parts c.requires.plays.parts).messages
-    c.requires.plays.nothing_sent)
 
 pub returns-clause-plays : goal.returns-clause-plays
 returns-clause-plays c =
@@ -50,7 +31,7 @@ returns-clause-plays c =
     (subst (λ (t : Seats). StepsTo (world_of c.args.world.now) t parts at c.args.self.now.writer c.message.new.writer) (sym c.in_ok-close.ensures.seats)
     (c.in_ok-message.ensures.steps parts c.requires.plays.parts)) c.in_ok-close.ensures.entries
     (receiver_is_node (setting_of c.args.world.now) c.args.world.now.entries c.args.self.now.writer.entries c.requires.legal c.requires.plays.legal
-    c.args.message s is) tt (subst AreKeys (sym c.in_ok-close.ensures.keys) c.requires.plays.keys)
+    c.args.message s is) tt
     (subst AreSeats (sym c.in_ok-close.ensures.seats) c.in_ok-message.ensures.seats) c.in_ok-close.ensures.messages
     c.in_ok-close.ensures.nothing_sent c.in_ok-close.ensures.nothing_noted
 
