@@ -1,6 +1,7 @@
 //! What a node does with what comes to it: the row of each kind.
 //!
-//! The rows are not inlined: a call clears its locals as it begins, and each row is to clear its own alone.
+//! The rows are not inlined: a call clears its locals as it begins, and each row is to clear its own alone. What leads to them is:
+//! what a step gives is large, and each call that hands it on would clear room for it and copy it once more.
 
 ghost use Rattle.std.specs.Prelude.{IfOk, List, ℕ};
 ghost use Rattle.overlay_rules.specs.Step.{step as step_of, on_message as on_message_of, on_command as on_command_of};
@@ -30,6 +31,7 @@ use ring_math::{Id, OutOfMemory};
 use std::alloc::Global;
 use wire_msg::{Command, Message};
 
+#[inline(always)]
 fn on_message(
     node: &Node,
     alloc: Global,
@@ -155,6 +157,7 @@ fn on_command(
 }
 
 /// What the step at this input sends, notes and changes. Nothing changes yet.
+#[inline(always)]
 pub(crate) fn plan(node: &Node, alloc: Global, input: &Input<'_>) -> Result<Prepared, OutOfMemory>
     ensures { (known : List ℕ) → Shows node.now known →
         IfOk result (λ p. Plans (seen node.now known) p (step_of (seen node.now known) (plain_input input.now))) }

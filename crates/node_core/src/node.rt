@@ -102,6 +102,7 @@ impl Node {
 
     /// All of a step that can be refused: what it sends, what it notes, what it changes, and room for the change. The node
     /// stands for what it stood for, whatever the answer.
+    #[inline(always)]
     pub fn prepare(&mut self, alloc: Global, input: &Input<'_>) -> Result<Prepared, OutOfMemory>
         ensures me { self.new.me ≡ self.old.me }
         ensures stands { (s : State) → Stands self.old s → Stands self.new s }
@@ -119,6 +120,7 @@ impl Node {
     ///
     /// It is there for who keeps nodes and records their steps, as a world does: the change is to be the one that `prepare`
     /// answered last, and nothing is to come between. A step that is of no such record is made by `step`.
+    #[inline(always)]
     pub fn commit(&mut self, change: Change)
         requires { Fits self.old change }
         ensures me { self.new.me ≡ self.old.me }

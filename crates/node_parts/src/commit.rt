@@ -1,4 +1,5 @@
-//! A change that fits is made: one function for each part. No call of this file takes memory.
+//! A change that fits is made: one function for each part. No call of this file takes memory. What most steps go through is inlined,
+//! since a change is large and each call that hands it on would copy it; what few go through is not.
 
 ghost use Rattle.std.specs.Prelude.{◌≡◌, ◌≤◌, ◌+◌, ℕ, List, length, vec_len, vec_capacity, filter, not, ◌==◌};
 ghost use Rattle.lookup_core.specs.Kept.{StandsFor};
@@ -113,6 +114,7 @@ fn change_waiting(waiting: &mut Vec<u64>, change: Wait)
 
 impl Node {
     /// The change is made. It takes no memory: room was made before. It is for node_core alone, which plans the change.
+    #[inline(always)]
     pub fn commit(&mut self, change: Change)
         requires { Fits self.old change }
         ensures me { self.new.me ≡ self.old.me }
@@ -123,6 +125,7 @@ impl Node {
         self.commit_rest(rest);
     }
 
+    #[inline(always)]
     fn commit_waiting(&mut self, waiting: Wait)
         requires { vec_len self.old.waiting + waits_more waiting ≤ vec_capacity self.old.waiting }
         ensures me { self.new.me ≡ self.old.me }
@@ -134,6 +137,7 @@ impl Node {
     }
 
     /// All is changed but what waits.
+    #[inline(always)]
     fn commit_rest(&mut self, rest: Rest)
         requires { RestFits self.old rest }
         ensures me { self.new.me ≡ self.old.me }

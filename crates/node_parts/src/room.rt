@@ -41,6 +41,7 @@ fn more_waiting(change: &Wait) -> usize
 
 impl Node {
     /// Makes room for a change. The node stands for what it stood for, whatever the answer.
+    #[inline(always)]
     pub fn make_room(&mut self, change: &Change) -> Result<(), OutOfMemory>
         ensures me { self.new.me ≡ self.old.me }
         ensures stands { (s : State) → Stands self.old s → Stands self.new s }
@@ -52,6 +53,7 @@ impl Node {
     }
 
     /// Makes room for all but a number that waits.
+    #[inline(always)]
     fn make_rest_room(&mut self, rest: &Rest) -> Result<(), OutOfMemory>
         ensures me { self.new.me ≡ self.old.me }
         ensures stands { (s : State) → Stands self.old s → Stands self.new s }

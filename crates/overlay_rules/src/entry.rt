@@ -124,12 +124,14 @@ impl Entries {
         }
     }
 
-    /// No entry yet, and room for so many. What they send and note is given room as they are added.
-    pub fn with_room(alloc: Global, count: usize) -> Result<Entries, OutOfMemory>
+    /// No entry yet, and room for so many, and for so many messages that they send. If there come to be more, or there is
+    /// something to note, room is made as they are added.
+    pub fn with_room(alloc: Global, count: usize, messages: usize) -> Result<Entries, OutOfMemory>
         ensures { IfOk result (λ none. none ≡ []) }
     {
         let mut none = Entries::new(alloc);
         none.lists.entries.reserve_exact(count)?;
+        none.lists.sent.reserve_exact(messages)?;
         Ok(none)
     }
 

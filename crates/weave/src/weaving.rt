@@ -111,7 +111,7 @@ impl Weaving {
         ensures emptied { IfOk result IsEmptied }
     {
         Ok(Weaving {
-            entries: Entries::with_room(alloc, count)?,
+            entries: Entries::with_room(alloc, count, 0)?,
             starts: Starts::new(alloc, count),
             ahead: Ahead::new(),
             messages: Vec::new(alloc),

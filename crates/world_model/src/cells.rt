@@ -1,4 +1,5 @@
-//! Nodes, each to be found by its identifier. All that this crate asks of node_core is asked here.
+//! Nodes, each to be found by its identifier. All that this crate asks of node_core is asked here. What only hands on a step or its
+//! change is inlined, as in node_core.
 
 ghost use Rattle.std.specs.Prelude.{◌≡◌, ◌==◌, ◌<◌, ℕ, true, IfOk, IfSome, IfNone, Contains, count_by, length, slice_index, vec_len};
 ghost use Rattle.std.specs.Prelude.{option_copied};
@@ -140,6 +141,7 @@ impl Cells {
     }
 
     /// All of a step that can be refused. The nodes stand for what they stood for.
+    #[inline(always)]
     pub fn prepare(
         &mut self,
         place: usize,
@@ -158,6 +160,7 @@ impl Cells {
     }
 
     /// The change comes to pass, which takes no memory. It is to be the one that `prepare` answered last at this place.
+    #[inline(always)]
     pub fn commit(&mut self, place: usize, change: Change)
         requires within { place < length (ids_of self.old) }
         requires fits { FitsAt self.old place change }
@@ -230,6 +233,7 @@ fn guesses_of(alloc: Global, ids: &[Id]) -> Result<Vec<usize>, OutOfMemory> {
     Ok(guesses)
 }
 
+#[inline(always)]
 fn prepare_at(
     nodes: &mut Vec<Node>,
     place: usize,
@@ -249,6 +253,7 @@ fn prepare_at(
     node.prepare(alloc, input)
 }
 
+#[inline(always)]
 fn commit_at(nodes: &mut Vec<Node>, place: usize, change: Change)
     requires within { place < vec_len nodes.old }
     requires fits { FitsAt nodes.old.items place change }

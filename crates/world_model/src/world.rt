@@ -24,6 +24,11 @@ use std::alloc::Global;
 use std::marker::Model;
 use wire_msg::Command;
 
+/// Room for so many entries and messages of each node is made as a world begins, so that the lists of a short play are not copied
+/// as they grow. A join in a ring of more than 16 nodes sends about 60 messages; more room than a play needs costs it time, since
+/// it lies between what is used.
+const ROOM_A_NODE: usize = 96;
+
 /// Nodes, and the record of all that happened among them.
 #[derive(Drop)]
 pub struct World {
@@ -52,10 +57,12 @@ impl World {
         ensures { IfOk result (λ world. world ≡ record { nodes = nodes.now; founder = founder; entries = [] }) }
     {
         let cells = Cells::new(alloc, nodes, founder)?;
+        let room = nodes.len().saturating_mul(ROOM_A_NODE);
+        let entries = Entries::with_room(alloc, room, room)?;
         Ok(World {
             cells,
             founder,
-            entries: Entries::new(alloc),
+            entries,
             messages: Messages::new(alloc),
         })
     }
