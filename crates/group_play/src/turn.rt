@@ -2,15 +2,18 @@
 
 ghost use Rattle.std.specs.Prelude.{◌≡◌, Contains, OnOk, List};
 ghost use Rattle.ring_math.specs.Names.{Number};
+ghost use Rattle.scribe_core.specs.Parts.{Part as PlainPart};
 ghost use Rattle.scribe_core.specs.Record.{way_in};
 ghost use Rattle.scribe_core.specs.Step.{on_command, on_message};
+ghost use Rattle.scribe_core.specs.Tree.{attach};
 ghost use Rattle.world_model.specs.Recorded.{world_of};
 ghost use Rattle.group_play.specs.Said.{Gives};
-ghost use Rattle.group_play.specs.Shown.{HasSeen, part_of};
+ghost use Rattle.group_play.specs.Shown.{HasSeen, part_of, place_of};
 
 use crate::part::Part;
 use crate::spot::Spot;
 use crate::way::way_from;
+use overlay_rules::Way;
 use ring_math::{Id, OutOfMemory};
 use scribe_core::{GroupCommand, GroupMessage, GroupWriter, Published};
 use std::alloc::Global;
@@ -60,7 +63,7 @@ impl Part {
     {
         match message {
             GroupMessage::Graft => {
-                let way = way_from(world, at.node, at.group.key());
+                let way = self.way_to_place(world, at);
                 self.on_graft(writer, at, way, sender)
             }
             GroupMessage::Prune => self.on_prune(writer, at, sender),
@@ -69,6 +72,20 @@ impl Part {
                 self.on_published(writer, at, way, *number, bytes)
             }
             GroupMessage::Cast { number, bytes } => self.cast(writer, at, *number, bytes),
+        }
+    }
+
+    /// Where the key leads, as far as the node's place depends on it: who is in a tree stays there wherever the key leads, so only
+    /// who is loose asks.
+    fn way_to_place(&self, world: &World, at: &Spot<'_>) -> Way
+        requires { Contains world.now.nodes at.now.node }
+        ensures { (p : PlainPart) → p.place ≡ place_of self.now.place →
+            attach result p ≡ attach (way_in (world_of world.now) at.now.node at.now.group.now) p }
+    {
+        if self.is_loose() {
+            way_from(world, at.node, at.group.key())
+        } else {
+            Way::NotReady
         }
     }
 }
