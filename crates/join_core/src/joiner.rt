@@ -1,6 +1,7 @@
 //! The phases of a join.
 
 ghost use Rattle.std.specs.Prelude.{◌≡◌, ◌<◌, IfOk, OnErr, IfSome, None};
+ghost use Rattle.ring_math.specs.Sides.{also_of};
 ghost use Rattle.join_core.specs.Awaited.{is_asking, is_awaited};
 ghost use Rattle.join_core.specs.Joining.{attempt_of, begin_of, after_begin};
 ghost use Rattle.join_core.specs.Probes.{reply_of, after_reply, probe_step_of, after_probe_reply, goes_on_with, heard as heard_of};
@@ -153,15 +154,15 @@ impl Joiner {
         }
     }
 
-    /// Whether it only goes on after an awaited answer of this node, with the node's leaves once its members were learnt: each
-    /// of them was probed, and another than the sender has not answered. What `on_probe_reply` would give then, `Probe` with no
+    /// Whether it only goes on after an awaited answer of this node, with the two sides of the leaf set once its members were learnt:
+    /// each leaf was probed, and another than the sender has not answered. What `on_probe_reply` would give then, `Probe` with no
     /// leaf, is said by the lemma `goes-on`.
-    pub fn goes_on_with(&self, sender: Id, leafs: &[Id]) -> bool
-        ensures { result ≡ goes_on_with self.now sender leafs.now }
+    pub fn goes_on_with(&self, sender: Id, right: &[Id], left: &[Id]) -> bool
+        ensures { result ≡ goes_on_with self.now sender (also_of right.now left.now) }
     {
         match self {
             Joiner::Probing { probed, .. } => {
-                probed.contains_all(leafs) && probed.awaits_besides(sender)
+                probed.contains_leaves(right, left) && probed.awaits_besides(sender)
             }
             _ => false,
         }

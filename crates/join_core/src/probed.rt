@@ -2,6 +2,7 @@
 
 ghost use Rattle.std.specs.Prelude.{◌≡◌, IfOk, map};
 ghost use Rattle.std.specs.List.{list_all, list_any};
+ghost use Rattle.ring_math.specs.Sides.{also_of};
 ghost use Rattle.overlay_rules.specs.Joining.{unanswered, is_unanswered, was_probed, answered_by};
 ghost use Rattle.join_core.specs.Probes.{new_of, probed_with, are_answered, is_awaited_besides};
 
@@ -83,13 +84,20 @@ impl Probed {
         self.items.iter().all(|probe| probe.1)
     }
 
-    /// Whether each of these was probed.
-    pub fn contains_all(&self, leafs: &[Id]) -> bool
+    /// Whether each leaf was probed, with these sides of the leaf set.
+    pub fn contains_leaves(&self, right: &[Id], left: &[Id]) -> bool
+        ensures { result ≡ list_all (was_probed self.now) (also_of right.now left.now) }
+    {
+        self.contains_all(0, right) && self.contains_all(right.len(), left)
+    }
+
+    /// Whether each of these was probed. They are looked for from a place on first.
+    fn contains_all(&self, from: usize, leafs: &[Id]) -> bool
         ensures { result ≡ list_all (was_probed self.now) leafs.now }
     {
         for place in 0..leafs.len() {
             let leaf = leafs[place];
-            if !self.contains_by(place, leaf) {
+            if !self.contains_by(from.saturating_add(place), leaf) {
                 return false;
             }
         }

@@ -99,14 +99,18 @@ fn it_goes_on_while_another_is_awaited(rt: HostRuntime) -> Result<(), Fail> {
     let alloc = rt.alloc();
     let mut joiner = Joiner::Waiting { attempt: 1 };
     joiner.begin(7);
-    assert!(rt; !joiner.goes_on_with(id(0x30), &[]));
-    let leafs = [id(0x50), id(0x30)];
+    assert!(rt; !joiner.goes_on_with(id(0x30), &[], &[]));
+    let right = [id(0x50)];
+    let left = [id(0x30), id(0x50)];
     joiner.on_reply(alloc, 1, &list(alloc, &[0x50, 0x30])?)?;
-    assert!(rt; joiner.goes_on_with(id(0x30), &leafs) && joiner.goes_on_with(id(0x50), &leafs));
-    assert!(rt; !joiner.goes_on_with(id(0x30), &[id(0x50), id(0x40), id(0x30)]));
+    assert!(rt;
+        joiner.goes_on_with(id(0x30), &right, &left) && joiner.goes_on_with(id(0x50), &right, &left)
+    );
+    assert!(rt; !joiner.goes_on_with(id(0x30), &right, &[id(0x40), id(0x30)]));
+    assert!(rt; !joiner.goes_on_with(id(0x30), &[id(0x50), id(0x40)], &left));
     joiner.hear(id(0x30));
     assert!(rt; !joiner.awaits(id(0x30), 1) && joiner.awaits(id(0x50), 1));
-    assert!(rt; !joiner.goes_on_with(id(0x50), &leafs));
+    assert!(rt; !joiner.goes_on_with(id(0x50), &right, &left));
     Ok(())
 }
 

@@ -5,8 +5,7 @@
 ghost use Rattle.std.specs.Prelude.{◌≡◌, ◌≤◌, ◌&&◌, ◌||◌, ◌++◌, not, false, [], IsTrue, List, Contains, MatchOption, length, slice_get};
 ghost use Rattle.ring_math.specs.Names.{Id};
 ghost use Rattle.ring_math.specs.Members.{IsClosest};
-ghost use Rattle.std.specs.List.{list_any};
-ghost use Rattle.ring_math.specs.Sides.{learn as learn_of, learn_all as learn_all_of};
+ghost use Rattle.ring_math.specs.Sides.{learn as learn_of};
 ghost use Rattle.leaf_set.specs.Leaves.{StandsFor, Improves, in_order, holds};
 ghost use Rattle.leaf_set.specs.Range.{is_in_range, lacks};
 
@@ -79,26 +78,33 @@ impl LeafSet {
             || self.left.holds(self.me, Direction::Counterclockwise, id)
     }
 
-    /// Whether an identifier that stands on no side would stand on one if it were learnt.
-    fn lacks(&self, id: Id) -> bool
+    /// Whether an identifier that stands on no side would stand on one if it were learnt. Where it would not, the leaf set stays as
+    /// it is, which is said by the lemma `stands-known`.
+    pub fn lacks(&self, id: Id) -> bool
         ensures { result ≡ lacks self.now id }
     {
-        // Whom neither side reaches changes neither: most of a large ring, so it is asked before the sides are searched.
-        id != self.me && self.in_range(id) && !self.holds(id)
+        // Whom neither side reaches changes neither, and a side has nobody whom it doesn't reach: most of a large ring, so that is
+        // asked before the sides are searched.
+        let by_right = self.right.reaches(self.me, Direction::Clockwise, id);
+        let by_left = self.left.reaches(self.me, Direction::Counterclockwise, id);
+        id != self.me
+            && (by_right || by_left)
+            && !(by_right && self.right.has(id))
+            && !(by_left && self.left.has(id))
     }
 
-    /// Whether one of these that stands on no side would stand on one if it were learnt. If there is none, the leaf set stays as
-    /// it is when they are learnt.
-    pub fn lacks_any(&self, ids: &[Id]) -> bool
-        ensures answer { result ≡ list_any (lacks self.now) ids.now }
-        ensures same { result ≡ false → (known : List Id) → StandsFor self.now known → StandsFor self.now (learn_all_of self.now.me known ids.now) }
+    /// The nearest clockwise, the nearest first.
+    pub fn on_right(&self) -> &[Id]
+        ensures { result.now ≡ self.now.right }
     {
-        for id in ids {
-            if self.lacks(*id) {
-                return true;
-            }
-        }
-        false
+        self.right.as_slice()
+    }
+
+    /// The nearest counterclockwise, the nearest first.
+    pub fn on_left(&self) -> &[Id]
+        ensures { result.now ≡ self.now.left }
+    {
+        self.left.as_slice()
     }
 
     /// Takes an identifier in on each side where it is among the nearest. It answers whether the identifier was

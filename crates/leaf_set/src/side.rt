@@ -95,7 +95,8 @@ impl Side {
         self.as_slice().get(n).copied()
     }
 
-    fn has(&self, id: Id) -> bool
+    /// Whether it is there, for whom the side reaches.
+    pub(crate) fn has(&self, id: Id) -> bool
         ensures { result ≡ is_in self.now id }
     {
         self.as_slice().iter().any(|other| *other == id)

@@ -1,5 +1,5 @@
 pub mod Learning
-mod Strangers
+pub mod Told
 mod Search
 pub mod Nearest
 pub mod Hops

@@ -1,10 +1,14 @@
 -- What a node's knowledge is seen as, and the lists that it stands for.
-use Rattle.std.specs.Prelude.{◌≡◌, ◌<◌, ◌^◌, if◌then◌else◌, Option, Some, None, Bool, not, ◌&&◌, ◌||◌, List, Contains, filter}
+use Rattle.std.specs.Prelude.{◌≡◌, ◌<◌, ◌^◌, if◌then◌else◌, Option, Some, None, Bool, not, ◌&&◌, List, Contains}
+use Rattle.std.specs.List.{list_any}
 use Rattle.ring_math.specs.Names.{Id, Key}
 use Rattle.ring_math.specs.Ring.{is_nearer}
 use Rattle.ring_math.specs.Members.{InRing}
 use Rattle.leaf_set.specs.Leaves.{Leaves, holds, StandsFor as LeafSetStandsFor}
-use Rattle.route_table.specs.Entries.{Table, is_held, StandsFor as TableStandsFor}
+use Rattle.leaf_set.specs.Range.{lacks}
+use Rattle.route_table.specs.Entries.{Table, is_held, is_new, StandsFor as TableStandsFor}
+use Rattle.lookup_core.specs.declared.knowledge.News.{News}
+use Rattle.lookup_core.specs.declared.knowledge.News.TheVariants.{Nothing, Entry, Leaf}
 
 pub record Kept : Type 0 where
   pub leafs : Leaves
@@ -20,13 +24,13 @@ pub record StandsFor (k : Kept) (known : List Id) : Type 0 where
 abbrev pub is_taken : Leaves → Leaves → Id → Bool
 is_taken old new y = not (holds old y) && holds new y
 
--- y is an entry or a leaf
-abbrev pub is_kept : Kept → Id → Bool
-is_kept k y = is_held k.table y || holds k.leafs y
+-- y is no entry, and would be a leaf if it were learnt
+abbrev pub is_new_leaf : Kept → Id → Bool
+is_new_leaf k y = not (is_held k.table y) && lacks k.leafs y
 
--- those of a list that are neither
-abbrev pub strangers : Kept → List Id → List Id
-strangers k ys = filter (λ y. not (is_kept k y)) ys
+-- what learning these would change first
+abbrev pub news_of : Kept → List Id → News
+news_of k ys = if list_any (is_new_leaf k) ys then Leaf else (if list_any (is_new k.table) ys then Entry else Nothing)
 
 -- the node and those that it knows are identifiers, and it is not among them
 pub record Others (me : Id) (known : List Id) : Type 0 where

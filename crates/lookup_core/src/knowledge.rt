@@ -1,16 +1,29 @@
 //! What a node knows of others: its leaf set and its prefix table.
 
-ghost use Rattle.std.specs.Prelude.{◌≡◌, ◌≤◌, List, [], ◌||◌, IsTrue, IsOk, IfOk, length};
+ghost use Rattle.std.specs.Prelude.{◌≡◌, ◌≢◌, List, [], ◌∷◌, ◌||◌, IsOk, IfOk};
 ghost use Rattle.ring_math.specs.Names.{Id};
 ghost use Rattle.ring_math.specs.Sides.{learn as learn_of, learn_all as learn_all_of};
-ghost use Rattle.route_table.specs.Entries.{is_new};
-ghost use Rattle.lookup_core.specs.Kept.{StandsFor, is_taken, is_kept, strangers as strangers_of};
+ghost use Rattle.leaf_set.specs.Leaves.{StandsFor as LeafSetStandsFor};
+ghost use Rattle.route_table.specs.Entries.{is_new, StandsFor as TableStandsFor};
+ghost use Rattle.lookup_core.specs.declared.knowledge.News.TheVariants as News;
+ghost use Rattle.lookup_core.specs.Kept.{StandsFor, is_taken, news_of};
 
 use leaf_set::LeafSet;
-use ring_math::{Id, IdsBuilder, MOST_MEMBERS, OutOfMemory};
-use route_table::RouteTable;
+use ring_math::{Id, OutOfMemory};
+use route_table::{RouteTable, Standing};
 use std::alloc::Global;
 use std::marker::Model;
+
+/// What learning identifiers would change.
+#[derive(Clone, Copy, Debug, PartialEq, Eq)]
+pub enum News {
+    /// Neither the leaf set nor the prefix table.
+    Nothing,
+    /// Entries of the prefix table alone.
+    Entry,
+    /// The leaf set, and perhaps the prefix table too.
+    Leaf,
+}
 
 /// The leaf set and the prefix table of a node. It never learns the node itself.
 #[derive(Drop)]
@@ -97,28 +110,42 @@ impl Knowledge {
         Ok(self.take_in(id))
     }
 
-    /// Whether an identifier is an entry or a leaf. One that is was learnt before.
-    fn keeps(&self, id: Id) -> bool
-        ensures kept { result ≡ is_kept self.now id }
-        ensures learnt { IsTrue result → (known : List Id) → StandsFor self.now known → learn_of self.now.leafs.me known id ≡ known }
+    /// What learning an identifier would change.
+    fn news_in(&self, id: Id) -> News
+        ensures news { result ≡ news_of self.now (id ∷ []) }
+        ensures leafs { result ≢ News.Leaf → (known ids : List Id) → StandsFor self.now known →
+            LeafSetStandsFor self.now.leafs (learn_all_of self.now.leafs.me known ids) →
+            LeafSetStandsFor self.now.leafs (learn_of self.now.leafs.me (learn_all_of self.now.leafs.me known ids) id) }
+        ensures table { result ≡ News.Nothing → (known : List Id) → TableStandsFor self.now.table known →
+            TableStandsFor self.now.table (learn_of self.now.table.me known id) }
     {
-        self.table.holds(id) || self.leafs.holds(id)
+        match self.table.standing(id) {
+            Standing::Entry => News::Nothing,
+            _ if self.leafs.lacks(id) => News::Leaf,
+            Standing::Free => News::Entry,
+            Standing::Elsewhere => News::Nothing,
+        }
     }
 
-    /// Those of these that are neither entries nor leaves, in order. The others were learnt before, so who learns these learns all.
-    pub fn strangers(&self, ids: &[Id]) -> IdsBuilder
-        requires { length ids.now ≤ MOST_MEMBERS }
-        ensures strangers { result ≡ strangers_of self.now ids.now }
-        ensures learnt { (known : List Id) → StandsFor self.now known →
-            learn_all_of self.now.leafs.me known result ≡ learn_all_of self.now.leafs.me known ids.now }
+    /// What learning these would change: whom it has and whom it has no place for change nothing. It is a call of its own, since it
+    /// needs all the registers that there are.
+    #[inline(never)]
+    pub fn news(&self, ids: &[Id]) -> News
+        ensures news { result ≡ news_of self.now ids.now }
+        ensures leafs { result ≢ News.Leaf → (known : List Id) → StandsFor self.now known →
+            LeafSetStandsFor self.now.leafs (learn_all_of self.now.leafs.me known ids.now) }
+        ensures same { result ≡ News.Nothing → (known : List Id) → StandsFor self.now known →
+            StandsFor self.now (learn_all_of self.now.leafs.me known ids.now) }
     {
-        let mut strangers = IdsBuilder::new();
+        let mut news = News::Nothing;
         for id in ids {
-            if !self.keeps(*id) {
-                strangers.append(*id);
+            match self.news_in(*id) {
+                News::Leaf => return News::Leaf,
+                News::Entry => news = News::Entry,
+                News::Nothing => {}
             }
         }
-        strangers
+        news
     }
 
     /// Learns these in order. It takes no memory.

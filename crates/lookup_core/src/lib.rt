@@ -6,7 +6,7 @@ mod knowledge;
 
 pub use coverage::Hop;
 pub use hop::next_hop;
-pub use knowledge::Knowledge;
+pub use knowledge::{Knowledge, News};
 
 #[cfg(test)]
 mod slow;

@@ -5,7 +5,7 @@ use Rattle.wire_msg.specs.Words.{Envelope}
 use Rattle.overlay_rules.specs.State.{State}
 use Rattle.overlay_rules.specs.Step.{step}
 use Rattle.node_parts.specs.declared.node.Node.{Node}
-use Rattle.node_parts.specs.Change.{changed}
+use Rattle.node_parts.specs.Makes.{Makes}
 use Rattle.node_parts.specs.Seen.{Stands}
 use Rattle.node_parts.specs.Sound.{IsSound}
 use Rattle.wire_codec.specs.Spelling.{Spells, spelling}
@@ -42,7 +42,7 @@ pub record IsCell (node : Node) (stamp : Stamp) (c : Cell) : Type 0 where
 
 -- the change, the entry and the frames are those of the step of node x at this input
 pub record IsPlanned (x : Id) (s : State) (stamp : Stamp) (i : CellInput) (r : Planned) : Type 0 where
-  pub state : changed r.change s ≡ (step s (input_of i)).state
+  pub state : Makes r.change s (step s (input_of i)).state
   pub sound : IsSound (step s (input_of i)).state
   pub entry : plain_entry r.entry ≡ entry_stamped x s i stamp
   pub frames : r.frames.items ≡ map frame_of (entry_stamped x s i stamp).sent

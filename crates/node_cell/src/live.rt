@@ -4,7 +4,7 @@ ghost use Rattle.std.specs.Prelude.{◌≡◌, ◌<◌, ◌≤◌, IfOk, IfErr, 
 ghost use Rattle.ring_math.specs.Names.{Id as PlainId, Stamp};
 ghost use Rattle.overlay_rules.specs.State.{State, start};
 ghost use Rattle.weave_laws.specs.Cells as plain;
-ghost use Rattle.node_parts.specs.Change.{changed};
+ghost use Rattle.node_parts.specs.Makes.{Makes};
 ghost use Rattle.node_parts.specs.Fits.{Fits};
 ghost use Rattle.node_parts.specs.Seen.{Stands};
 ghost use Rattle.node_parts.specs.Sound.{IsSound};
@@ -112,7 +112,7 @@ impl LiveNode {
 fn made(node: &mut Node, planned: Planned) -> Taken
     requires { Fits node.old planned.change }
     ensures me { node.new.me ≡ node.old.me }
-    ensures stands { (s t : State) → Stands node.old s → changed planned.change s ≡ t → IsSound t → Stands node.new t }
+    ensures stands { (s t : State) → Stands node.old s → Makes planned.change s t → IsSound t → Stands node.new t }
     ensures entry { result.entry ≡ planned.entry }
     ensures frames { result.frames ≡ planned.frames }
 {

@@ -5,9 +5,9 @@ ghost use Rattle.std.specs.VecDeque.{deque_len, deque_capacity};
 ghost use Rattle.overlay_rules.specs.State.{State};
 ghost use Rattle.overlay_rules.specs.Step.{step};
 ghost use Rattle.weave_laws.specs.Cells.{input_of, input_stamp, stamp_after};
-ghost use Rattle.node_parts.specs.Change.{changed};
+ghost use Rattle.node_parts.specs.Makes.{Makes};
 ghost use Rattle.node_parts.specs.Fits.{Fits};
-ghost use Rattle.node_parts.specs.Plans.{Plans};
+ghost use Rattle.node_parts.specs.Plans.{Prepares};
 ghost use Rattle.node_parts.specs.Seen.{Stands};
 ghost use Rattle.node_parts.specs.Sound.{IsSound};
 ghost use Rattle.node_cell.specs.declared.fault.TheConstants.{LAST_STAMP};
@@ -63,7 +63,7 @@ fn with_frames(
 ) -> Result<Planned, OutOfMemory>
     ensures change { IfOk result (λ r. r.change ≡ prepared.change) }
     ensures stamp { IfOk result (λ r. r.entry.stamp ≡ stamp) }
-    ensures planned { (s : State) → Plans s prepared (step s (input_of (plain_input_of input))) → IsSound (step s (input_of (plain_input_of input))).state → IfOk result (IsPlanned me s stamp (plain_input_of input)) }
+    ensures planned { (s : State) → Prepares s prepared (step s (input_of (plain_input_of input))) → IsSound (step s (input_of (plain_input_of input))).state → IfOk result (IsPlanned me s stamp (plain_input_of input)) }
 {
     let Prepared {
         messages,
@@ -136,7 +136,7 @@ pub(crate) fn commit(
     requires entry { vec_len history.old < vec_capacity history.old }
     requires frames { deque_len unsent.old + vec_len planned.frames ≤ deque_capacity unsent.old }
     ensures me { node.new.me ≡ node.old.me }
-    ensures stands { (s t : State) → Stands node.old s → changed planned.change s ≡ t → IsSound t → Stands node.new t }
+    ensures stands { (s t : State) → Stands node.old s → Makes planned.change s t → IsSound t → Stands node.new t }
     ensures history { history.new.items ≡ history.old.items ++ planned.entry ∷ [] }
     ensures unsent { unsent.new.items ≡ unsent.old.items ++ planned.frames.items }
 {

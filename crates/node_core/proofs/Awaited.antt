@@ -1,5 +1,5 @@
 -- An answer that is not awaited does nothing, and one after which the join only goes on is noted.
-use Rattle.std.proofs.Common.{◌≡◌, ℕ, Bool, true, false, None, List, [], map, append-nil, refl, sym, ap, ◌∙◌, subst}
+use Rattle.std.proofs.Common.{◌≡◌, ℕ, Bool, true, false, None, List, [], map, append-nil, refl, sym, ap, ◌∙◌}
 use Rattle.ring_math.specs.Sides.{learn_all, leaves}
 use Rattle.overlay_rules.specs.State.{State, Phase}
 use Rattle.overlay_rules.specs.State as phase
@@ -29,16 +29,12 @@ not-awaited s from a heard j e f =
     was_probed s from a heard j (leaves s.me k) (first_left s k) (first_right s k) Dropped e refl refl refl
     (joiner.not-awaited j from a (leaves s.me k) (first_left s k) (first_right s k) f)
 
--- these are as many as are new of those that the answer tells of
-pub only-heard : (s : State) (from a : ℕ) (heard new : List ℕ) → learn_all s.me s.known new ≡ learn_all s.me s.known heard →
-    is_awaited (joiner_of s.phase) from a ≡ true → goes_on_with (joiner_of s.phase) from (leaves s.me (learn_all s.me s.known new)) ≡ true →
-    heard_from s from new ≡ on_probe_reply s from a heard
-only-heard s from a heard new same awaited goes =
+-- one after which the join only goes on
+pub only-heard : (s : State) (from a : ℕ) (heard : List ℕ) → is_awaited (joiner_of s.phase) from a ≡ true →
+    goes_on_with (joiner_of s.phase) from (leaves s.me (learn_all s.me s.known heard)) ≡ true → heard_from s from heard ≡ on_probe_reply s from a heard
+only-heard s from a heard awaited on =
     let k : List ℕ = learn_all s.me s.known heard in
-    let on : goes_on_with (joiner_of s.phase) from (leaves s.me k) ≡ true =
-    subst (λ (known : List ℕ). goes_on_with (joiner_of s.phase) from (leaves s.me known) ≡ true) same goes in
-    ap (λ (known : List ℕ). nothing (record s { phase = heard_phase from s.phase; known = known })) same
-    ∙ by_phase k (leaves s.me k) s.phase on
+    by_phase k (leaves s.me k) s.phase on
     ∙ was_probed s from a heard (joiner_of s.phase) (leaves s.me k) (first_left s k) (first_right s k) (Probe []) refl refl refl refl
     (goes-on (joiner_of s.phase) from a (leaves s.me k) (first_left s k) (first_right s k) awaited on) where
       by_phase : (known leafs : List ℕ) (p : Phase) → goes_on_with (joiner_of p) from leafs ≡ true →

@@ -1,4 +1,5 @@
 pub mod Rows
+pub mod Alike
 pub mod Awaited
 pub mod Gates
 pub mod Few

@@ -1,14 +1,20 @@
 //! What a node does with what comes to it: the row of each kind.
 //!
-//! The rows are not inlined: a call clears its locals as it begins, and each row is to clear its own alone. What leads to them is:
-//! what a step gives is large, and each call that hands it on would clear room for it and copy it once more.
+//! The rows are not inlined: a call clears its locals as it begins, and each row is to clear its own alone. What leads to them from a
+//! message is, since what a step gives is large, and each call that hands it on would clear room for it and copy it once more.
+//! Commands are few, so what leads to their rows is as it comes.
 
 ghost use Rattle.std.specs.Prelude.{IfOk, List, ℕ};
+ghost use Rattle.overlay_rules.specs.Gatekeeper.{on_lease_request as on_lease_request_of};
+ghost use Rattle.overlay_rules.specs.Roots.{on_insert as on_insert_of, on_fetch as on_fetch_of, on_reclaim as on_reclaim_of};
+ghost use Rattle.overlay_rules.specs.Routed.{on_lookup as on_lookup_of};
 ghost use Rattle.overlay_rules.specs.Step.{step as step_of, on_message as on_message_of, on_command as on_command_of};
 ghost use Rattle.wire_msg.specs.Words.{plain};
 ghost use Rattle.node_parts.specs.Seen.{seen, Shows};
-ghost use Rattle.node_parts.specs.Plans.{Plans};
+ghost use Rattle.node_parts.specs.Plans.{Plans, Prepares};
+ghost use Rattle.node_parts.specs.declared.change.Wait.TheVariants as waiting;
 ghost use Rattle.node_core.specs.Inputs.{plain_input};
+ghost use Rattle.node_core.specs.Rows.{IsRow};
 
 use crate::files::fetch::on_fetch;
 use crate::files::handover::on_handover;
@@ -27,9 +33,98 @@ use crate::joins::probing::{on_join_reply, on_probe, on_probe_reply};
 use crate::request::Request;
 use gate_core::Gate;
 use node_parts::{Change, Node, Prepared};
-use ring_math::{Id, OutOfMemory};
+use ring_math::{Bytes, FileId, Id, OutOfMemory};
 use std::alloc::Global;
-use wire_msg::{Command, Message};
+use wire_msg::{Command, Copies, Message};
+
+/// A lookup that came as a message. This and the like below are calls of their own: what they make for the row would else be cleared
+/// at each message of any kind.
+#[inline(never)]
+fn lookup_came(
+    node: &Node,
+    alloc: Global,
+    origin: Id,
+    number: u64,
+    key: Id,
+    hops: u16,
+) -> Result<Prepared, OutOfMemory>
+    ensures { IsRow node.now waiting.Keep (λ s. on_lookup_of s origin number key hops) result }
+{
+    let request = Request::on_its_way(origin, number);
+    on_lookup(node, alloc, &request, key, hops)
+}
+
+/// An insert that came as a message.
+#[inline(never)]
+fn insert_came(
+    node: &Node,
+    alloc: Global,
+    origin: Id,
+    number: u64,
+    hops: u16,
+    file: &FileId,
+    copies: Copies,
+    bytes: &Bytes,
+) -> Result<Prepared, OutOfMemory>
+    ensures { IsRow node.now waiting.Keep (λ s. on_insert_of s origin number hops file.now copies bytes.now) result }
+{
+    let request = Request::on_its_way(origin, number);
+    on_insert(node, alloc, &request, hops, file, copies, bytes)
+}
+
+/// A fetch that came as a message.
+#[inline(never)]
+fn fetch_came(
+    node: &Node,
+    alloc: Global,
+    origin: Id,
+    number: u64,
+    hops: u16,
+    file: &FileId,
+) -> Result<Prepared, OutOfMemory>
+    ensures { IsRow node.now waiting.Keep (λ s. on_fetch_of s origin number hops file.now) result }
+{
+    let request = Request::on_its_way(origin, number);
+    on_fetch(node, alloc, &request, hops, file)
+}
+
+/// A reclaim that came as a message.
+#[inline(never)]
+fn reclaim_came(
+    node: &Node,
+    alloc: Global,
+    origin: Id,
+    number: u64,
+    hops: u16,
+    file: &FileId,
+) -> Result<Prepared, OutOfMemory>
+    ensures { IsRow node.now waiting.Keep (λ s. on_reclaim_of s origin number hops file.now) result }
+{
+    let request = Request::on_its_way(origin, number);
+    on_reclaim(node, alloc, &request, hops, file)
+}
+
+/// A request for a lease.
+#[inline(never)]
+fn lease_asked(
+    node: &Node,
+    alloc: Global,
+    joiner: Id,
+    attempt: u32,
+    left: Id,
+    right: Id,
+) -> Result<Prepared, OutOfMemory>
+    ensures { (known : List ℕ) → IfOk result (λ p. Plans (seen node.now known) p
+        (on_lease_request_of (seen node.now known) (record { joiner = joiner; attempt = attempt; left = left; right = right }))) }
+{
+    let gate = Gate {
+        joiner,
+        attempt,
+        left,
+        right,
+    };
+    on_lease_request(node, alloc, &gate)
+}
 
 #[inline(always)]
 fn on_message(
@@ -39,7 +134,7 @@ fn on_message(
     message: &Message,
 ) -> Result<Prepared, OutOfMemory>
     ensures { (known : List ℕ) → Shows node.now known →
-        IfOk result (λ p. Plans (seen node.now known) p (on_message_of (seen node.now known) from (plain message.now))) }
+        IfOk result (λ p. Prepares (seen node.now known) p (on_message_of (seen node.now known) from (plain message.now))) }
 {
     match message {
         Message::Lookup {
@@ -47,10 +142,7 @@ fn on_message(
             number,
             key,
             hops,
-        } => {
-            let request = Request::on_its_way(*origin, *number);
-            on_lookup(node, alloc, &request, *key, *hops)
-        }
+        } => lookup_came(node, alloc, *origin, *number, *key, *hops),
         Message::Insert {
             origin,
             number,
@@ -58,28 +150,19 @@ fn on_message(
             file,
             copies,
             bytes,
-        } => {
-            let request = Request::on_its_way(*origin, *number);
-            on_insert(node, alloc, &request, *hops, file, *copies, bytes)
-        }
+        } => insert_came(node, alloc, *origin, *number, *hops, file, *copies, bytes),
         Message::Fetch {
             origin,
             number,
             hops,
             file,
-        } => {
-            let request = Request::on_its_way(*origin, *number);
-            on_fetch(node, alloc, &request, *hops, file)
-        }
+        } => fetch_came(node, alloc, *origin, *number, *hops, file),
         Message::Reclaim {
             origin,
             number,
             hops,
             file,
-        } => {
-            let request = Request::on_its_way(*origin, *number);
-            on_reclaim(node, alloc, &request, *hops, file)
-        }
+        } => reclaim_came(node, alloc, *origin, *number, *hops, file),
         Message::LookupReply { number, reply } => on_reply(node, alloc, *number, reply),
         Message::InsertReply { number, reply } => on_reply(node, alloc, *number, reply),
         Message::FetchReply { number, reply } => on_reply(node, alloc, *number, reply),
@@ -111,15 +194,7 @@ fn on_message(
             attempt,
             left,
             right,
-        } => {
-            let gate = Gate {
-                joiner: from,
-                attempt: *attempt,
-                left: *left,
-                right: *right,
-            };
-            on_lease_request(node, alloc, &gate)
-        }
+        } => lease_asked(node, alloc, from, *attempt, *left, *right),
         Message::Grant {
             attempt,
             manifest,
@@ -160,7 +235,7 @@ fn on_command(
 #[inline(always)]
 pub(crate) fn plan(node: &Node, alloc: Global, input: &Input<'_>) -> Result<Prepared, OutOfMemory>
     ensures { (known : List ℕ) → Shows node.now known →
-        IfOk result (λ p. Plans (seen node.now known) p (step_of (seen node.now known) (plain_input input.now))) }
+        IfOk result (λ p. Prepares (seen node.now known) p (step_of (seen node.now known) (plain_input input.now))) }
 {
     match input {
         Input::Command { number, command } => on_command(node, alloc, *number, command),

@@ -5,9 +5,9 @@ ghost use Rattle.ring_math.specs.Files.{slot_of};
 ghost use Rattle.file_store.specs.Answers.{bytes_in};
 ghost use Rattle.overlay_rules.specs.State.{State, start, is_ready};
 ghost use Rattle.overlay_rules.specs.Step.{step as step_of};
-ghost use Rattle.node_parts.specs.Change.{changed};
 ghost use Rattle.node_parts.specs.Fits.{Fits};
-ghost use Rattle.node_parts.specs.Plans.{Plans};
+ghost use Rattle.node_parts.specs.Makes.{Makes};
+ghost use Rattle.node_parts.specs.Plans.{Prepares};
 ghost use Rattle.node_parts.specs.Seen.{Stands};
 ghost use Rattle.node_parts.specs.Sound.{IsSound};
 ghost use Rattle.node_parts.specs.Views.{reach_of, hop_of};
@@ -107,7 +107,7 @@ impl Node {
         ensures me { self.new.me ≡ self.old.me }
         ensures stands { (s : State) → Stands self.old s → Stands self.new s }
         ensures fits { IfOk result (λ p. Fits self.new p.change) }
-        ensures plans { (s : State) → Stands self.old s → IfOk result (λ p. Plans s p (step_of s (plain_input input.now))) }
+        ensures plans { (s : State) → Stands self.old s → IfOk result (λ p. Prepares s p (step_of s (plain_input input.now))) }
         ensures sound { (s : State) → Stands self.old s → IsSound (step_of s (plain_input input.now)).state }
     {
         input_law(input);
@@ -124,7 +124,7 @@ impl Node {
     pub fn commit(&mut self, change: Change)
         requires { Fits self.old change }
         ensures me { self.new.me ≡ self.old.me }
-        ensures stands { (s t : State) → Stands self.old s → changed change s ≡ t → IsSound t → Stands self.new t }
+        ensures stands { (s t : State) → Stands self.old s → Makes change s t → IsSound t → Stands self.new t }
     {
         self.parts.commit(change);
     }

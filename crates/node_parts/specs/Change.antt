@@ -85,7 +85,8 @@ parts_changed r s =
 abbrev pub rest_after : Rest → State → State
 rest_after rest.Keep s = s
 rest_after (rest.Learnt y) s = record s { known = learn s.me s.known y }
-rest_after (rest.Heard from l) s = record s { phase = heard_phase from s.phase; known = known_after s.me l s.known }
+rest_after (rest.Answered from) s = record s { phase = heard_phase from s.phase }
+rest_after (rest.Heard from ys) s = record s { phase = heard_phase from s.phase; known = learn_all s.me s.known ys }
 rest_after (rest.Parts r) s = parts_changed r.value s
 
 abbrev pub changed : Change → State → State

@@ -44,7 +44,8 @@ pub record PartsFit (n : Node) (r : Parts) : Type 0 where
 abbrev pub RestFits : Node → Rest → Type 0
 RestFits n rest.Keep = Unit {0}
 RestFits n (rest.Learnt y) = Unit {0}
-RestFits n (rest.Heard from l) = Unit {0}
+RestFits n (rest.Answered from) = Unit {0}
+RestFits n (rest.Heard from ys) = Unit {0}
 RestFits n (rest.Parts r) = PartsFit n r.value
 
 -- the node has the room

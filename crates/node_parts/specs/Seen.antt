@@ -26,6 +26,11 @@ pub record Shows (n : Node) (known : List Id) : Type 0 where
   pub keeps : StandsFor n.known known
   pub sound : IsSound (seen n known)
 
+-- the node has the parts of the state, and may have learnt its list
+pub record Keeps (n : Node) (s : State) : Type 0 where
+  pub knows : StandsFor n.known s.known
+  pub same : s ≡ seen n s.known
+
 -- the node stands for the state
 pub record Stands (n : Node) (s : State) : Type 0 where
   pub shows : Shows n s.known

@@ -1,7 +1,7 @@
 //! Outcomes that many rows share: what is sent and noted beside a change.
 
 ghost use Rattle.std.specs.Prelude.{◌≡◌, IfOk, OnOk, [], ◌∷◌, ◌++◌};
-ghost use Rattle.ring_math.specs.Sides.{learn as learnt};
+ghost use Rattle.ring_math.specs.Sides.{learn as learn_of, learn_all};
 ghost use Rattle.overlay_rules.specs.State.{State};
 ghost use Rattle.overlay_rules.specs.Outcome.{nothing, becomes, sent, before, to_both, to_each, replied as replied_of, reply_message};
 ghost use Rattle.overlay_rules.specs.Routed.{one_more as one_more_of};
@@ -18,7 +18,7 @@ use crate::change::{
 use join_core::Joiner;
 use overlay_rules::Asked;
 use replica_handover::Taking;
-use ring_math::{Id, OutOfMemory};
+use ring_math::{Id, Ids, OutOfMemory};
 use std::alloc::Global;
 use wire_msg::{Answer, MOST_HOPS, Message, Note, Notes, Outgoing, Reply, Sends};
 
@@ -42,7 +42,7 @@ impl Change {
 
     /// This node is learnt.
     pub fn learns(id: Id) -> Change
-        ensures { (s : State) → changed result s ≡ record s { known = learnt s.me s.known id } }
+        ensures { (s : State) → changed result s ≡ record s { known = learn_of s.me s.known id } }
     {
         Change {
             rest: Rest::Learnt(id),
@@ -50,12 +50,22 @@ impl Change {
         }
     }
 
-    /// A join that probes goes on: the sender has answered, and this is learnt.
-    pub fn hears(sender: Id, learn: Learn) -> Change
-        ensures { (s : State) → changed result s ≡ record s { phase = heard_phase sender s.phase; known = known_after s.me learn s.known } }
+    /// A join that probes goes on: the sender has answered.
+    pub fn answered(sender: Id) -> Change
+        ensures { (s : State) → changed result s ≡ record s { phase = heard_phase sender s.phase } }
     {
         Change {
-            rest: Rest::Heard { sender, learn },
+            rest: Rest::Answered { sender },
+            waiting: Wait::Keep,
+        }
+    }
+
+    /// A join that probes goes on: the sender has answered, and these are learnt.
+    pub fn hears(sender: Id, learnt: Ids) -> Change
+        ensures { (s : State) → changed result s ≡ record s { phase = heard_phase sender s.phase; known = learn_all s.me s.known learnt } }
+    {
+        Change {
+            rest: Rest::Heard { sender, learnt },
             waiting: Wait::Keep,
         }
     }

@@ -91,8 +91,10 @@ pub enum Rest {
     Keep,
     /// This node is learnt.
     Learnt(Id),
-    /// A join that probes goes on: the sender has answered, and this is learnt.
-    Heard { sender: Id, learn: Learn },
+    /// A join that probes goes on: the sender has answered.
+    Answered { sender: Id },
+    /// So it does, and these are learnt.
+    Heard { sender: Id, learnt: Ids },
     Parts(Box<Parts>),
 }
 

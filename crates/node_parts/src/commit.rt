@@ -4,9 +4,10 @@
 ghost use Rattle.std.specs.Prelude.{◌≡◌, ◌≤◌, ◌+◌, ℕ, List, length, vec_len, vec_capacity, filter, not, ◌==◌};
 ghost use Rattle.lookup_core.specs.Kept.{StandsFor};
 ghost use Rattle.overlay_rules.specs.State.{State};
-ghost use Rattle.node_parts.specs.Change.{changed, waited, rest_after, parts_changed, phase_after, gate_after, known_after, files_after, pending_after, waiting_after};
+ghost use Rattle.node_parts.specs.Change.{waited, rest_after, parts_changed, phase_after, gate_after, known_after, files_after, pending_after, waiting_after};
 ghost use Rattle.node_parts.specs.Fits.{Fits, RestFits, PartsFit, StoreFits, asks_more, waits_more};
-ghost use Rattle.node_parts.specs.Seen.{Stands};
+ghost use Rattle.node_parts.specs.Makes.{Makes};
+ghost use Rattle.node_parts.specs.Seen.{Keeps, Stands};
 ghost use Rattle.node_parts.specs.Sound.{IsSound};
 
 use crate::change::{
@@ -118,7 +119,7 @@ impl Node {
     pub fn commit(&mut self, change: Change)
         requires { Fits self.old change }
         ensures me { self.new.me ≡ self.old.me }
-        ensures stands { (s t : State) → Stands self.old s → changed change s ≡ t → IsSound t → Stands self.new t }
+        ensures stands { (s t : State) → Stands self.old s → Makes change s t → IsSound t → Stands self.new t }
     {
         let Change { rest, waiting } = change;
         self.commit_waiting(waiting);
@@ -131,7 +132,7 @@ impl Node {
         ensures me { self.new.me ≡ self.old.me }
         ensures store { self.new.store ≡ self.old.store }
         ensures past { self.new.past ≡ self.old.past }
-        ensures stands { (s : State) → Stands self.old s → Stands self.new (waited waiting s) }
+        ensures keeps { (s : State) → Keeps self.old s → Keeps self.new (waited waiting s) }
     {
         change_waiting(&mut self.waiting, waiting);
     }
@@ -141,17 +142,15 @@ impl Node {
     fn commit_rest(&mut self, rest: Rest)
         requires { RestFits self.old rest }
         ensures me { self.new.me ≡ self.old.me }
-        ensures stands { (s t : State) → Stands self.old s → rest_after rest s ≡ t → IsSound t → Stands self.new t }
+        ensures keeps { (s t : State) → Keeps self.old s → rest_after rest s ≡ t → Keeps self.new t }
     {
         match rest {
             Rest::Keep => {}
             Rest::Learnt(id) => self.known.learn_all(&[id]),
-            Rest::Heard {
-                sender,
-                learn: learnt,
-            } => {
+            Rest::Answered { sender } => self.seat.hear(sender),
+            Rest::Heard { sender, learnt } => {
                 self.seat.hear(sender);
-                learn(&mut self.known, learnt);
+                self.known.learn_all(learnt.as_slice());
             }
             Rest::Parts(parts) => self.commit_parts(Box::into_inner(parts)),
         }
@@ -162,7 +161,7 @@ impl Node {
     fn commit_parts(&mut self, parts: Parts)
         requires { PartsFit self.old parts }
         ensures me { self.new.me ≡ self.old.me }
-        ensures stands { (s t : State) → Stands self.old s → parts_changed parts s ≡ t → IsSound t → Stands self.new t }
+        ensures keeps { (s t : State) → Keeps self.old s → parts_changed parts s ≡ t → Keeps self.new t }
     {
         let Parts {
             seat,

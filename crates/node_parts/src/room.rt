@@ -61,7 +61,7 @@ impl Node {
     {
         match rest {
             Rest::Parts(parts) => self.make_parts_room(parts),
-            Rest::Keep | Rest::Learnt(_) | Rest::Heard { .. } => Ok(()),
+            Rest::Keep | Rest::Learnt(_) | Rest::Answered { .. } | Rest::Heard { .. } => Ok(()),
         }
     }
 

@@ -9,7 +9,7 @@ use Rattle.std.proofs.lemmas.List.{get_or-set_same, get_or-set_other, length-set
 use Rattle.std.proofs.lemmas.List.Folds.{find-append}
 use Rattle.ring_math.specs.declared.limits.TheConstants.{DIGITS, DIGIT_VALUES}
 use Rattle.ring_math.specs.Ring.{digit_of, shared_of}
-use Rattle.ring_math.specs.Sides.{is_in, belongs, entry_of, learn}
+use Rattle.ring_math.specs.Sides.{is_in, belongs, entry_of, is_some_at, learn}
 use Rattle.route_table.specs.Entries.{Table, StandsFor, entry_in, with_entry}
 
 -- ---- to which entry an identifier belongs
@@ -129,6 +129,22 @@ stands-held t known y row col x st e f hr hc some = record { size = st.size; ent
         ∙ subst (λ k. entry_in t r k ≡ Some x) same_col (subst (λ k. entry_in t k col ≡ Some x) same_row some))
     | inr b ↦ entry-elsewhere t.me y known r d b
   ])
+
+-- where something stands at the entry to which an identifier belongs, it is learnt without any effect
+pub stands-elsewhere : (t : Table) (known : List ℕ) (y row col : ℕ) → StandsFor t known → row ≡ shared_of t.me y → col ≡ digit_of y row → row < DIGITS →
+    col < DIGIT_VALUES → is_none (entry_in t row col) ≡ false → StandsFor t (learn t.me known y)
+stands-elsewhere t known y row col st e f hr hc some = by (entry_in t row col) refl some where
+  by : (there : Option ℕ) → entry_in t row col ≡ there → is_none there ≡ false → StandsFor t (learn t.me known y)
+  by None there none = cc
+  by (Some x) there none = stands-held t known y row col x st e f hr hc there
+
+-- who stands there is there
+pub is-there : (y : ℕ) (there : Option ℕ) → is_some_at y there ≡ true → there ≡ Some y
+is-there y None e = cc
+is-there y (Some x) e = ap Some (eqb-true x y e)
+
+pub is-some : (y : ℕ) (there : Option ℕ) → is_some_at y there ≡ true → is_none there ≡ false
+is-some y there e = ap is_none (is-there y there e)
 
 pub stands-filled : (t : Table) (known : List ℕ) (y row col : ℕ) → StandsFor t known → y == t.me ≡ false → row ≡ shared_of t.me y → col ≡ digit_of y row →
     row < DIGITS → col < DIGIT_VALUES → entry_in t row col ≡ None → StandsFor (with_entry t row col y) (learn t.me known y)

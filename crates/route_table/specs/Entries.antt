@@ -1,11 +1,13 @@
 -- What a prefix table is seen as, and the lists that it stands for.
-use Rattle.std.specs.Prelude.{◌≡◌, ◌<◌, ℕ, ◌+◌, ◌*◌, Bool, true, not, ◌&&◌, ◌==◌, is_none, Option, Some, None, List, length, Contains}
+use Rattle.std.specs.Prelude.{◌≡◌, ◌<◌, ℕ, ◌+◌, ◌*◌, Bool, true, not, ◌&&◌, ◌==◌, if◌then◌else◌, is_none, Option, Some, None, List, length, Contains}
 use Rattle.std.specs.Prelude.{slice_index_or, slice_set}
 use Rattle.ring_math.specs.Names.{Id, Key}
 use Rattle.ring_math.specs.declared.limits.TheConstants.{DIGITS, DIGIT_VALUES}
 use Rattle.ring_math.specs.Ring.{digit_of, shared_of}
 use Rattle.ring_math.specs.Nearer.{improves}
 use Rattle.ring_math.specs.Sides.{entry_of, is_some_at}
+use Rattle.route_table.specs.declared.Standing.{Standing}
+use Rattle.route_table.specs.declared.Standing.TheVariants.{Entry, Free, Elsewhere}
 
 -- a node and its entries, one row after another: a row for each digit, and a column for each of its values
 pub record Table : Type 0 where
@@ -28,6 +30,10 @@ is_new t y = not (y == t.me) && is_none (entry_in t (shared_of t.me y) (digit_of
 -- y is not the node, and is the entry to which it belongs
 abbrev pub is_held : Table → Id → Bool
 is_held t y = not (y == t.me) && is_some_at y (entry_in t (shared_of t.me y) (digit_of y (shared_of t.me y)))
+
+-- how y stands to the table
+abbrev pub standing_of : Table → Id → Standing
+standing_of t y = if is_held t y then Entry else (if is_new t y then Free else Elsewhere)
 
 -- the table with an entry
 abbrev pub with_entry : Table → ℕ → ℕ → Id → Table

@@ -9,8 +9,9 @@ ghost use Rattle.ring_math.specs.Names.{Id};
 ghost use Rattle.ring_math.specs.Members.{IsClosest};
 ghost use Rattle.ring_math.specs.Nearer.{improves};
 ghost use Rattle.ring_math.specs.Ring.{dist_of, is_nearer};
-ghost use Rattle.ring_math.specs.Sides.{learn as learn_of};
-ghost use Rattle.route_table.specs.Entries.{StandsFor, Improves, entry_in, is_held, is_new, with_entry};
+ghost use Rattle.ring_math.specs.Sides.{learn as learn_of, is_some_at};
+ghost use Rattle.route_table.specs.declared.Standing.TheVariants as Standing;
+ghost use Rattle.route_table.specs.Entries.{StandsFor, Improves, entry_in, is_held, is_new, standing_of, with_entry};
 ghost use Rattle.route_table.specs.Filled.{entry_at as entry_at_of, entries_at};
 
 use ring_math::{DIGIT_VALUES, DIGITS, Id, OutOfMemory, cw, digit, dist, shared};
@@ -19,6 +20,17 @@ use std::marker::Model;
 
 /// How many entries there are: a row for each digit, and a column for each of its values.
 const ENTRIES: usize = DIGITS as usize * DIGIT_VALUES as usize;
+
+/// How an identifier stands to a table.
+#[derive(Clone, Copy, Debug, PartialEq, Eq)]
+pub enum Standing {
+    /// It is an entry.
+    Entry,
+    /// The entry to which it belongs is empty.
+    Free,
+    /// The entry to which it belongs is another, or it is the node itself, which belongs to none.
+    Elsewhere,
+}
 
 /// A row for each digit, with an entry for each value that it can have: an identifier or empty.
 #[derive(Drop)]
@@ -57,6 +69,16 @@ fn entry_at(me: Id, id: Id) -> Option<Id>
     ensures { result ≡ entry_at_of me id }
 {
     if id == me { None } else { Some(id) }
+}
+
+/// Whether this identifier stands there.
+fn is_there(there: Option<Id>, id: Id) -> bool
+    ensures { result ≡ is_some_at id there }
+{
+    match there {
+        Some(other) => other == id,
+        None => false,
+    }
 }
 
 /// Adds an identifier as often as a list needs it to have so many. The room is there, so it takes no memory. A table is asked
@@ -140,9 +162,28 @@ impl RouteTable {
             return false;
         }
         let row = shared(me, id);
-        match self.entry(row, digit(id, row)) {
-            Some(entry) => entry == id,
-            None => false,
+        is_there(self.entry(row, digit(id, row)), id)
+    }
+
+    /// How an identifier stands to the table. One that is an entry was learnt before, and only one whose entry is empty changes the
+    /// table when it is learnt.
+    pub fn standing(&self, id: Id) -> Standing
+        ensures standing { result ≡ standing_of self.now id }
+        ensures learnt { result ≡ Standing.Entry → (known : List Id) → StandsFor self.now known → learn_of self.now.me known id ≡ known }
+        ensures same { result ≢ Standing.Free → (known : List Id) → StandsFor self.now known → StandsFor self.now (learn_of self.now.me known id) }
+    {
+        let me = self.me();
+        if id == me {
+            return Standing::Elsewhere;
+        }
+        let row = shared(me, id);
+        let there = self.entry(row, digit(id, row));
+        if is_there(there, id) {
+            Standing::Entry
+        } else if there.is_some() {
+            Standing::Elsewhere
+        } else {
+            Standing::Free
         }
     }
 

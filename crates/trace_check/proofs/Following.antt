@@ -20,8 +20,8 @@ use Rattle.overlay_rules.specs.Record.{unstamped, enveloped, IsFresh, Follows}
 use Rattle.overlay_rules.proofs.Histories.{run-push, past_of_run}
 use Rattle.node_parts.specs.declared.node.Node.{Node}
 use Rattle.node_parts.specs.declared.change.Prepared.{Prepared}
-use Rattle.node_parts.specs.Change.{changed}
-use Rattle.node_parts.specs.Plans.{Plans}
+use Rattle.node_parts.specs.Makes.{Makes}
+use Rattle.node_parts.specs.Plans.{Prepares}
 use Rattle.node_parts.specs.Sound.{IsSound}
 use Rattle.world_model.specs.Cells.{AllStand, ids_of}
 use Rattle.trace_check.specs.declared.replay.Replay.{Replay}
@@ -84,11 +84,11 @@ pub noted_exactly : (r : Bool) (notes noted due : List Note) → noted ≡ due �
 noted_exactly r notes noted due e h = Decides-like r (λ k. k ∙ e) (λ k. k ∙ sym e) h
 
 -- the change is made at the node that it was prepared for
-pub made : (now : List Node) (states : Id → State) (x y : Id) (p : Prepared) (o : Outcome) → y ≡ x → Plans (states x) p o → IsSound o.state →
-    ((t : State) → changed p.change (states y) ≡ t → IsSound t → AllStand now (state_at states y t)) → AllStand now (state_at states x o.state)
+pub made : (now : List Node) (states : Id → State) (x y : Id) (p : Prepared) (o : Outcome) → y ≡ x → Prepares (states x) p o → IsSound o.state →
+    ((t : State) → Makes p.change (states y) t → IsSound t → AllStand now (state_at states y t)) → AllStand now (state_at states x o.state)
 made now states x y p o same plans sound commit =
     subst (λ z. AllStand now (state_at states z o.state)) same
-    (commit o.state (subst (λ z. changed p.change (states z) ≡ o.state) (sym same) plans.state) sound)
+    (commit o.state (subst (λ z. Makes p.change (states z) o.state) (sym same) plans.state) sound)
 
 -- ---- an entry that is wrong does not follow
 

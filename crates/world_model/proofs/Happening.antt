@@ -12,7 +12,7 @@ use Rattle.overlay_rules.specs.Played.{entry_of}
 use Rattle.step_facts.specs.Receivers.{ViaIs}
 use Rattle.node_parts.specs.declared.node.Node.{Node}
 use Rattle.node_parts.specs.declared.change.Prepared.{Prepared}
-use Rattle.node_parts.specs.Plans.{Plans}
+use Rattle.node_parts.specs.Plans.{Prepares}
 use Rattle.world_model.specs.declared.index.Messages.{Messages}
 use Rattle.world_model.specs.Cells.{AllStand, ids_of}
 use Rattle.world_model.specs.Index.{ListsMessages}
@@ -54,7 +54,7 @@ IsWorld-kept cells new a b founder es others w ids same st l =
 
 -- the entry of an event, as it is made of what was prepared
 pub entry-made : (r : Recorded) (v : Event) (place : ℕ) (c : ComesTo r v place) (p : Prepared) (i : Input) (stamp : Stamp) (x : Id) → i ≡ c.input →
-    Plans ((world_of r).states (slice_index r.nodes place)) p (step ((world_of r).states (slice_index r.nodes place)) i) →
+    Prepares ((world_of r).states (slice_index r.nodes place)) p (step ((world_of r).states (slice_index r.nodes place)) i) →
     stamp ≡ length r.entries + 1 → x ≡ slice_index r.nodes place →
     record { event = v; messages = map (enveloped stamp x) p.messages; notes = p.notes } ≡ entry_of (world_of r) v
 entry-made r v place c p i stamp x same plans numbered here =

@@ -10,8 +10,8 @@ ghost use Rattle.file_store.specs.Answers.{bytes_in};
 ghost use Rattle.overlay_rules.specs.State.{State, is_ready, start};
 ghost use Rattle.overlay_rules.specs.Step.{step};
 ghost use Rattle.overlay_rules.specs.Record.{IsSetting, all_differ, world_at_start, state_at};
-ghost use Rattle.node_parts.specs.Change.{changed};
-ghost use Rattle.node_parts.specs.Plans.{Plans};
+ghost use Rattle.node_parts.specs.Makes.{Makes};
+ghost use Rattle.node_parts.specs.Plans.{Prepares};
 ghost use Rattle.node_parts.specs.Seen.{Stands};
 ghost use Rattle.node_parts.specs.Sound.{IsSound};
 ghost use Rattle.node_parts.specs.Views.{hop_of, reach_of};
@@ -153,7 +153,7 @@ impl Cells {
         ensures stand { (states : ℕ → State) → AllStand self.old states → AllStand self.new states }
         ensures fits { IfOk result (λ p. FitsAt self.new place p.change) }
         ensures plans { (states : ℕ → State) → AllStand self.old states →
-            IfOk result (λ p. Plans (states (id_at self.old place)) p (step (states (id_at self.old place)) (plain_input input.now))) }
+            IfOk result (λ p. Prepares (states (id_at self.old place)) p (step (states (id_at self.old place)) (plain_input input.now))) }
         ensures sound { (states : ℕ → State) → AllStand self.old states → IsSound (step (states (id_at self.old place)) (plain_input input.now)).state }
     {
         prepare_at(&mut self.nodes, place, alloc, input)
@@ -165,7 +165,7 @@ impl Cells {
         requires within { place < length (ids_of self.old) }
         requires fits { FitsAt self.old place change }
         ensures ids { ids_of self.new ≡ ids_of self.old }
-        ensures stand { (states : ℕ → State) (t : State) → AllStand self.old states → changed change (states (id_at self.old place)) ≡ t → IsSound t →
+        ensures stand { (states : ℕ → State) (t : State) → AllStand self.old states → Makes change (states (id_at self.old place)) t → IsSound t →
             AllStand self.new (state_at states (id_at self.old place) t) }
     {
         commit_at(&mut self.nodes, place, change);
@@ -245,7 +245,7 @@ fn prepare_at(
     ensures stand { (states : ℕ → State) → AllStand nodes.old.items states → AllStand nodes.new.items states }
     ensures fits { IfOk result (λ p. FitsAt nodes.new.items place p.change) }
     ensures plans { (states : ℕ → State) → AllStand nodes.old.items states →
-        IfOk result (λ p. Plans (states (id_at nodes.old.items place)) p (step (states (id_at nodes.old.items place)) (plain_input input.now))) }
+        IfOk result (λ p. Prepares (states (id_at nodes.old.items place)) p (step (states (id_at nodes.old.items place)) (plain_input input.now))) }
     ensures sound { (states : ℕ → State) → AllStand nodes.old.items states →
         IsSound (step (states (id_at nodes.old.items place)) (plain_input input.now)).state }
 {
@@ -259,7 +259,7 @@ fn commit_at(nodes: &mut Vec<Node>, place: usize, change: Change)
     requires fits { FitsAt nodes.old.items place change }
     requires different { AreDifferent nodes.old.items }
     ensures ids { ids_of nodes.new.items ≡ ids_of nodes.old.items }
-    ensures stand { (states : ℕ → State) (t : State) → AllStand nodes.old.items states → changed change (states (id_at nodes.old.items place)) ≡ t → IsSound t →
+    ensures stand { (states : ℕ → State) (t : State) → AllStand nodes.old.items states → Makes change (states (id_at nodes.old.items place)) t → IsSound t →
         AllStand nodes.new.items (state_at states (id_at nodes.old.items place) t) }
 {
     let node = &mut nodes[place];

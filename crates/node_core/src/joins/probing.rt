@@ -1,7 +1,7 @@
 //! A joiner learns who its neighbours are: the answer to its request, probes, and the answers to them.
 
 ghost use Rattle.std.specs.Prelude.{◌≡◌, IfOk, List, ℕ, true};
-ghost use Rattle.ring_math.specs.Sides.{learn_all, leaves};
+ghost use Rattle.ring_math.specs.Sides.{leaves};
 ghost use Rattle.wire_msg.specs.Words.{LeaseRequest};
 ghost use Rattle.join_core.specs.Joining.{joiner_of};
 ghost use Rattle.join_core.specs.Probes.{goes_on_with};
@@ -10,16 +10,15 @@ ghost use Rattle.overlay_rules.specs.Outcome.{to_both};
 ghost use Rattle.overlay_rules.specs.Joining.{on_join_reply as on_join_reply_of, on_probe_reply as on_probe_reply_of};
 ghost use Rattle.overlay_rules.specs.Gatekeeper.{on_probe as on_probe_of};
 ghost use Rattle.node_parts.specs.Seen.{seen, Shows};
-ghost use Rattle.node_parts.specs.Change.{changed, known_after};
-ghost use Rattle.node_parts.specs.Plans.{Plans};
-ghost use Rattle.node_core.specs.Asked.{gone_on as gone_on_of, heard_from, probes_sent, leases_asked};
+ghost use Rattle.node_parts.specs.Change.{changed};
+ghost use Rattle.node_parts.specs.Plans.{Plans, Prepares};
+ghost use Rattle.node_core.specs.Asked.{gone_on as gone_on_of, probes_sent, leases_asked};
 
 use crate::sends::sent_to_each;
 use join_core::{Joiner, ProbeStep};
-use node_parts::{
-    Change, Learn, Node, Prepared, first_left, first_right, leaves_in, leaves_of, sent_to_both,
-};
-use ring_math::{Id, Ids, IdsBuilder, OutOfMemory};
+use lookup_core::News;
+use node_parts::{Change, Learn, Node, Prepared, first_left, first_right, leaves_of, sent_to_both};
+use ring_math::{Id, Ids, OutOfMemory};
 use std::alloc::Global;
 use wire_msg::{Message, Notes, Sends};
 
@@ -112,7 +111,8 @@ fn gone_on(alloc: Global, joiner: Joiner, members: &Ids) -> Result<Change, OutOf
     Change::joins(alloc, joiner, Learn::All(learnt))
 }
 
-/// A ProbeReply. Most come to a node that waits for none, so that is seen before anything is learnt from it.
+/// A ProbeReply. Most come to a node that waits for none, so that is seen before anything is learnt from it. Of those that are awaited
+/// most tell of nobody whom the node has a place for, and are not the last.
 #[inline(never)]
 pub(crate) fn on_probe_reply(
     node: &Node,
@@ -122,49 +122,33 @@ pub(crate) fn on_probe_reply(
     members: &Ids,
 ) -> Result<Prepared, OutOfMemory>
     ensures { (known : List ℕ) → Shows node.now known →
-        IfOk result (λ p. Plans (seen node.now known) p (on_probe_reply_of (seen node.now known) from attempt members.now)) }
+        IfOk result (λ p. Prepares (seen node.now known) p (on_probe_reply_of (seen node.now known) from attempt members.now)) }
 {
     if !node.seat.joiner().awaits(from, attempt) {
         return Ok(Prepared::quiet(alloc, Change::nothing()));
     }
-    // Of those that are awaited most tell of no new leaf, and are not the last.
-    let strangers = node.known.strangers(members.as_slice());
-    if goes_on(node, from, strangers.as_slice()) {
-        return only_heard(alloc, from, strangers);
+    match node.known.news(members.as_slice()) {
+        News::Nothing if goes_on(node, from) => {
+            Ok(Prepared::quiet(alloc, Change::answered(from)))
+        }
+        News::Entry if goes_on(node, from) => {
+            let learnt = members.copy(alloc)?;
+            Ok(Prepared::quiet(alloc, Change::hears(from, learnt)))
+        }
+        _ => heard(node, alloc, from, attempt, members),
     }
-    heard(node, alloc, from, attempt, members)
 }
 
-/// Whether the join only goes on once this node has answered and these were learnt: no leaf is new, each was probed, and another
-/// has not answered. Where a leaf is new it is not asked further.
-fn goes_on(node: &Node, from: Id, strangers: &[Id]) -> bool
+/// Whether the join only goes on once this node has answered and has told of no new leaf: each leaf was probed, and another has not
+/// answered.
+fn goes_on(node: &Node, from: Id) -> bool
     ensures { result ≡ true → (known : List ℕ) → Shows node.now known →
-        goes_on_with (joiner_of node.now.seat) from (leaves node.now.me (learn_all node.now.me known strangers.now)) ≡ true }
+        goes_on_with (joiner_of node.now.seat) from (leaves node.now.me known) ≡ true }
 {
     let leafs = node.known.leafs();
-    if leafs.lacks_any(strangers) {
-        return false;
-    }
-    let leaves = leaves_in(leafs);
-    node.seat.joiner().goes_on_with(from, leaves.as_slice())
-}
-
-/// This node has answered, and these are learnt.
-fn only_heard(alloc: Global, from: Id, strangers: IdsBuilder) -> Result<Prepared, OutOfMemory>
-    ensures { (s : State) → IfOk result (λ p. Plans s p (heard_from s from strangers)) }
-{
-    let learn = learning(alloc, strangers)?;
-    Ok(Prepared::quiet(alloc, Change::hears(from, learn)))
-}
-
-/// These are learnt, if there are any.
-fn learning(alloc: Global, ids: IdsBuilder) -> Result<Learn, OutOfMemory>
-    ensures { (me : ℕ) (known : List ℕ) → IfOk result (λ learn. known_after me learn known ≡ learn_all me known ids) }
-{
-    if ids.as_slice().is_empty() {
-        return Ok(Learn::Nothing);
-    }
-    Ok(Learn::All(ids.finish(alloc)?))
+    node.seat
+        .joiner()
+        .goes_on_with(from, leafs.on_right(), leafs.on_left())
 }
 
 /// The members are learnt, and new leaves are probed; once each has answered, both neighbours are asked for their leases.

@@ -1,6 +1,6 @@
 use Rattle.std.proofs.Common.{◌≡◌, ◌<◌, ℕ, length, sym, ap, subst, ◌∙◌, arith}
 use Rattle.node_parts.specs.declared.node.Node.{Node}
-use Rattle.node_parts.specs.Change.{changed}
+use Rattle.node_parts.specs.Makes.{Makes}
 use Rattle.world_model.specs.Cells.{id_at}
 use Rattle.world_model.proofs.OneNode.{id-read, ids-set, stand-at, all-changed}
 use Rattle.world_model.proofs.cells.commit_at.Goals as goal
@@ -18,4 +18,4 @@ returns-clause-stand c = λ states t a changes sound.
     let st = stand-at c.args.nodes.now.items states c.args.place c.index_mut-node.result.now a l c.index_mut-node.ensures.value in
     all-changed c.args.nodes.now.items states c.args.place c.index_mut-node.result.now c.commit.new.self t c.requires.different a l
     c.index_mut-node.ensures.value c.commit.ensures.me
-    (c.commit.ensures.stands (states c.index_mut-node.result.now.me) t st (subst (λ (m : ℕ). changed c.args.change (states m) ≡ t) e changes) sound)
+    (c.commit.ensures.stands (states c.index_mut-node.result.now.me) t st (subst (λ (m : ℕ). Makes c.args.change (states m) t) e changes) sound)

@@ -1,7 +1,7 @@
 use Rattle.std.proofs.Common.{◌≡◌, ◌<◌, ℕ, length, refl, sym, ap, subst, ◌∙◌, arith, IfOk}
 use Rattle.overlay_rules.specs.Step.{step}
 use Rattle.node_parts.specs.declared.node.Node.{Node}
-use Rattle.node_parts.specs.Plans.{Plans}
+use Rattle.node_parts.specs.Plans.{Prepares}
 use Rattle.node_parts.specs.Seen.{Stands}
 use Rattle.node_parts.specs.Sound.{IsSound}
 use Rattle.node_core.specs.Inputs.{plain_input}
@@ -27,7 +27,8 @@ returns-clause-plans c = λ states a.
     let e : id_at c.args.nodes.now.items c.args.place ≡ c.index_mut-node.result.now.me =
     id-read c.args.nodes.now.items c.args.place c.index_mut-node.result.now l ∙ ap (λ (n : Node). n.me) (sym c.index_mut-node.ensures.value) in
     let st = stand-at c.args.nodes.now.items states c.args.place c.index_mut-node.result.now a l c.index_mut-node.ensures.value in
-    subst (λ (m : ℕ). IfOk c.prepare.result (λ p. Plans (states m) p (step (states m) (plain_input c.args.input.now)))) (sym e) (c.prepare.ensures.plans _ st)
+    subst (λ (m : ℕ). IfOk c.prepare.result (λ p. Prepares (states m) p (step (states m) (plain_input c.args.input.now)))) (sym e)
+    (c.prepare.ensures.plans _ st)
 
 pub returns-clause-sound : goal.returns-clause-sound
 returns-clause-sound c = λ states a.

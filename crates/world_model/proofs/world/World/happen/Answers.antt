@@ -8,8 +8,9 @@ use Rattle.overlay_rules.specs.Played.{entry_of}
 use Rattle.overlay_rules.specs.Outcome.{Input}
 use Rattle.overlay_rules.specs.declared.entry.Entry.{Entry}
 use Rattle.step_facts.specs.Receivers.{ViaIs}
-use Rattle.node_parts.specs.Change.{changed}
-use Rattle.node_parts.specs.Plans.{Plans}
+use Rattle.node_parts.specs.declared.change.Change.{Change}
+use Rattle.node_parts.specs.Makes.{Makes}
+use Rattle.node_parts.specs.Plans.{Prepares}
 use Rattle.node_parts.specs.Sound.{IsSound}
 use Rattle.node_core.specs.Inputs.{plain_input}
 use Rattle.world_model.specs.Recorded.{Recorded, setting_of, world_of, with_event}
@@ -59,7 +60,7 @@ same_input c = c.input_of-input.ensures (record { node = node c; input = (comes 
 -- ---- what was prepared, and the entry that is made of it
 
 plans : (c : After-commit) →
-    Plans ((world_of (past c)).states (node c)) c.in_ok-messages.field-0 (step ((world_of (past c)).states (node c)) (plain_input c.input_of-input.result))
+    Prepares ((world_of (past c)).states (node c)) c.in_ok-messages.field-0 (step ((world_of (past c)).states (node c)) (plain_input c.input_of-input.result))
 plans c = c.in_ok-messages.ensures.plans (world_of (past c)).states c.self.invariant.stand
 
 abbrev entry : (c : After-commit) → Entry
@@ -113,11 +114,12 @@ stands : (c : After-commit) →
 stands c =
     let states : ℕ → State = (world_of (past c)).states in
     let t : State = (step (states (node c)) (comes c).input).state in
+    let change : Change = c.in_ok-messages.field-0.change in
     let at : id_at c.prepare.new.self c.args.place ≡ node c = ap (λ (ids : List ℕ). slice_index ids c.args.place) c.prepare.ensures.ids in
     subst (λ (y : ℕ). AllStand c.commit.new.self (state_at states y t)) at
     (c.commit.ensures.stand states t (c.prepare.ensures.stand states c.self.invariant.stand)
-    (ap (λ (y : ℕ). changed c.in_ok-messages.field-0.change (states y)) at ∙ (plans c).state
-    ∙ ap (λ (i : Input). (step (states (node c)) i).state) (same_input c))
+    (subst (λ (i : Input). Makes change (states (id_at c.prepare.new.self c.args.place)) (step (states (node c)) i).state) (same_input c)
+    (subst (λ (y : ℕ). Makes change (states y) (step (states (node c)) (plain_input c.input_of-input.result)).state) (sym at) (plans c).state))
     (subst (λ (i : Input). IsSound (step (states (node c)) i).state) (same_input c) (c.prepare.ensures.sound states c.self.invariant.stand)))
 
 pub invariant_of-self-2 : goal.invariant_of-self-2
