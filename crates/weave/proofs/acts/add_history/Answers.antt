@@ -1,4 +1,4 @@
-use Rattle.std.proofs.Common.{◌≡◌, ◌∙◌, ◌<◌, ◌+◌, ◌++◌, ◌∷◌, [], List, take, length, ap, sym, append_assoc, arith}
+use Rattle.std.proofs.Common.{◌≡◌, ◌∙◌, ◌<◌, ◌++◌, ◌∷◌, [], List, take, length, ap, sym, append_assoc, arith}
 use Rattle.std.proofs.lemmas.List.{length-take-le, take_more}
 use Rattle.weave_laws.specs.Cells.{CellEntry}
 use Rattle.weave.specs.declared.acts.Act.{Act}

@@ -1,4 +1,4 @@
-use Rattle.std.proofs.Common.{◌≡◌, ◌∙◌, List, ap, get_or-set_other}
+use Rattle.std.proofs.Common.{◌∙◌, List, ap, get_or-set_other}
 use Rattle.std.proofs.lemmas.List.{map-set}
 use Rattle.node_cell.specs.Entries.{plain_entry, plain_history}
 use Rattle.weave_laws.specs.Cells.{CellEntry}

@@ -1,7 +1,6 @@
 use Rattle.std.proofs.Common.{◌≡◌, ◌∙◌, ℕ, List, length, ap, reverse, arith}
 use Rattle.node_cell.specs.declared.entry.CellEntry.{CellEntry as CodeEntry}
 use Rattle.node_cell.specs.Entries.{plain_history}
-use Rattle.weave_laws.specs.Cells.{CellEntry}
 use Rattle.weave.specs.Strands.{left_of}
 use Rattle.weave.proofs.Strands.{all_left}
 use Rattle.weave.proofs.given.Given.of.Goals as goal
