@@ -56,7 +56,7 @@ impl Probed {
     pub fn awaits(&self, sender: Id) -> bool
         ensures { result ≡ list_any (is_unanswered sender) self.now }
     {
-        self.items.iter().any(|probe| probe.0 == sender && !probe.1)
+        self.items.iter().any(|probe| !probe.1 && probe.0 == sender)
     }
 
     /// Whether this node was probed.
@@ -108,7 +108,7 @@ impl Probed {
     pub fn awaits_besides(&self, sender: Id) -> bool
         ensures { result ≡ list_any (is_awaited_besides sender) self.now }
     {
-        self.items.iter().any(|probe| probe.0 != sender && !probe.1)
+        self.items.iter().any(|probe| !probe.1 && probe.0 != sender)
     }
 
     /// This node has answered. It takes no memory.

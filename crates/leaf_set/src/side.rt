@@ -95,11 +95,16 @@ impl Side {
         self.as_slice().get(n).copied()
     }
 
-    /// Whether it is there, for whom the side reaches.
+    /// Whether it is there, for whom the side reaches. All are compared, whatever the first are: a processor can't foresee where a
+    /// search ends, and to guess wrong costs it more than to compare all.
     pub(crate) fn has(&self, id: Id) -> bool
         ensures { result ≡ is_in self.now id }
     {
-        self.as_slice().iter().any(|other| *other == id)
+        let mut is_there = false;
+        for other in self.as_slice() {
+            is_there |= *other == id;
+        }
+        is_there
     }
 
     /// Whether it is there.
@@ -215,20 +220,22 @@ impl Side {
         }
     }
 
-    /// The place of the first that is farther than this one, or how many there are.
+    /// The place of the first that is farther than this one, or how many there are. So many are not farther, and all are compared, as
+    /// `has` compares them.
     fn place_of(&self, me: Id, direction: Direction, id: Id) -> usize
+        requires { Rises (far me direction) self.now }
         ensures within { result ≤ length self.now }
         ensures limit { length self.now ≤ LEAVES_PER_SIDE }
         ensures first { result ≡ position_or_len (λ y. nat_lt (far me direction id) (far me direction y)) self.now }
     {
         let from_me = distance(me, direction, id);
-        let ids = self.as_slice();
-        for (place, other) in ids.iter().enumerate() {
-            if from_me < distance(me, direction, *other) {
-                return place;
+        let mut count = 0;
+        for other in self.as_slice() {
+            if distance(me, direction, *other) <= from_me {
+                count += 1;
             }
         }
-        ids.len()
+        count
     }
 
     /// Puts an identifier in its place, behind those as far as it, where it is among the first

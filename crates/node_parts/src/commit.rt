@@ -152,16 +152,16 @@ impl Node {
                 self.seat.hear(sender);
                 self.known.learn_all(learnt.as_slice());
             }
-            Rest::Parts(parts) => self.commit_parts(Box::into_inner(parts)),
+            Rest::Parts(parts) => self.commit_parts(parts),
         }
     }
 
-    /// These parts are changed.
+    /// These parts are changed. They come in their box, so that only this call has room for them.
     #[inline(never)]
-    fn commit_parts(&mut self, parts: Parts)
-        requires { PartsFit self.old parts }
+    fn commit_parts(&mut self, parts: Box<Parts>)
+        requires { PartsFit self.old parts.value }
         ensures me { self.new.me ≡ self.old.me }
-        ensures keeps { (s t : State) → Keeps self.old s → parts_changed parts s ≡ t → Keeps self.new t }
+        ensures keeps { (s t : State) → Keeps self.old s → parts_changed parts.value s ≡ t → Keeps self.new t }
     {
         let Parts {
             seat,
@@ -170,7 +170,7 @@ impl Node {
             learn: learnt,
             store,
             past,
-        } = parts;
+        } = Box::into_inner(parts);
         change_seat(&mut self.seat, seat);
         change_gate(&mut self.left_gate, left_gate);
         change_gate(&mut self.right_gate, right_gate);

@@ -101,6 +101,7 @@ impl Player {
 
     /// The next turn at the player's place. This cursor stands behind it afterwards; the player's goes on only by
     /// [`move_to`](Player::move_to), once the turn was made, since that may be refused.
+    #[inline(always)]
     pub fn next(&mut self, cursor: &mut Cursor, scenario: &Scenario) -> Turn
         requires at { cursor.old ≡ self.old.spot }
         ensures next { IsNext scenario.now self.old cursor.new result }
@@ -120,6 +121,7 @@ impl Player {
 
     /// Makes a turn of these actions, and leaves the player at its place. The answer is false, with nothing changed, where the
     /// turn says that none is left. After `OutOfMemory` the player is as before.
+    #[inline(always)]
     pub fn make(
         &mut self,
         alloc: Global,

@@ -59,6 +59,7 @@ impl Cursor {
 
     /// The next turn, where so many messages were sent and this is the oldest that was never delivered. The scenario is
     /// that of the calls before on this cursor. Any words serve, and those of the calls before are the fastest.
+    #[inline(always)]
     pub fn next(
         &mut self,
         scenario: &Scenario,

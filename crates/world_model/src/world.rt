@@ -24,10 +24,12 @@ use std::alloc::Global;
 use std::marker::Model;
 use wire_msg::Command;
 
-/// Room for so many entries and messages of each node is made as a world begins, so that the lists of a short play are not copied
-/// as they grow. A join in a ring of more than 16 nodes sends about 60 messages; more room than a play needs costs it time, since
-/// it lies between what is used.
-const ROOM_A_NODE: usize = 96;
+/// Room for so many entries of each node is made as a world begins, and for so many messages, so that the lists of a short play are
+/// not copied as they grow. A join in a ring of more than 16 nodes sends about 60 messages; more room than a play needs costs it
+/// time, since it lies between what is used, and a message takes more than three times what an entry does.
+const ENTRIES_A_NODE: usize = 96;
+
+const MESSAGES_A_NODE: usize = 72;
 
 /// Nodes, and the record of all that happened among them.
 #[derive(Drop)]
@@ -57,8 +59,11 @@ impl World {
         ensures { IfOk result (λ world. world ≡ record { nodes = nodes.now; founder = founder; entries = [] }) }
     {
         let cells = Cells::new(alloc, nodes, founder)?;
-        let room = nodes.len().saturating_mul(ROOM_A_NODE);
-        let entries = Entries::with_room(alloc, room, room)?;
+        let entries = Entries::with_room(
+            alloc,
+            nodes.len().saturating_mul(ENTRIES_A_NODE),
+            nodes.len().saturating_mul(MESSAGES_A_NODE),
+        )?;
         Ok(World {
             cells,
             founder,
@@ -93,6 +98,7 @@ impl World {
     /// A message, counted from 0 over all that were sent, comes to its receiver. The answer is false, with nothing changed,
     /// exactly where at most so many were sent. After `OutOfMemory`, which comes only where the message was sent, the world is
     /// as before.
+    #[inline(always)]
     pub fn deliver(&mut self, alloc: Global, message: u64) -> Result<bool, OutOfMemory>
         ensures answer { IfOk result (λ was_sent. was_sent ≡ nat_lt message (length (sent_in self.old.entries))) }
         ensures ok { IfOk result (λ was_sent. MatchBool was_sent (self.new ≡ with_event self.old (event.Deliver message)) (self.new ≡ self.old)) }
