@@ -6,6 +6,8 @@ use Rattle.weave_laws.specs.Cells.{CellInput, Command, Comes, Noise}
 use Rattle.weave.specs.Placed.{Placed}
 use Rattle.weave.specs.declared.fault.WeaveFault.{WeaveFault}
 use Rattle.weave.specs.declared.fault.WeaveFault.TheVariants as fault
+use Rattle.weave.specs.declared.stop.Stop.{Stop}
+use Rattle.weave.specs.declared.stop.Stop.TheVariants as stop
 
 -- an envelope that comes in was sent
 abbrev pub IsAnswered : List Envelope → CellInput → Type 0
@@ -26,6 +28,16 @@ pub record IsNamed (p : Placed) (x : Id) (place : ℕ) : Type 0 where
 abbrev pub IsStopAt : List Envelope → Placed → WeaveFault → Type 0
 IsStopAt sent p (fault.Stray x place v) = IsNamed p x place × IsStrayOf sent p (plain_envelope v)
 IsStopAt sent p fault.OutOfMemory = Unit {0}
+
+-- this entry took in some envelope that was not sent
+pub record Strays (sent : List Envelope) (p : Placed) : Type 0 where
+  pub envelope : Envelope
+  pub stray : IsStrayOf sent p envelope
+
+-- weaving halts at this entry, as it says
+abbrev pub IsHaltAt : List Envelope → Placed → Stop → Type 0
+IsHaltAt sent p stop.Stray = Strays sent p
+IsHaltAt sent p stop.OutOfMemory = Unit {0}
 
 -- the entries before it took in what was sent
 pub record StopsWithin (sent : List Envelope) (ps : List Placed) (f : WeaveFault) : Type 0 where

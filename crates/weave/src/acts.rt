@@ -64,11 +64,20 @@ fn all_acts<S: Strand>(alloc: Global, strands: &[S]) -> Result<Vec<Act>, OutOfMe
     ensures acts { IfOk result (λ acts. map (placed (map S.history strands.now)) acts.items ≡ all_placed (map S.history strands.now)) }
     ensures within { IfOk result (λ acts. All (IsWithin (map S.history strands.now)) acts.items) }
 {
-    let mut acts = Vec::new(alloc);
+    let mut acts = Vec::with_capacity(alloc, count_of(strands))?;
     for history in 0..small(strands.len())? {
         add_history(&mut acts, history, &strands[history as usize])?;
     }
     Ok(acts)
+}
+
+/// How many entries there are, for which room is made at once: a list that grows by parts waits for memory at each.
+fn count_of<S: Strand>(strands: &[S]) -> usize {
+    let mut count: usize = 0;
+    for strand in strands {
+        count = count.saturating_add(strand.count());
+    }
+    count
 }
 
 /// The entries of the history of this number.

@@ -2,9 +2,11 @@
 //!
 //! The entries of many histories lie far apart, and so do the messages of a record. What is looked at for the first time is waited
 //! for. So the next entries are looked at together, in short loops, none of which needs what another of its turns looks at: then
-//! much is waited for at once. No promise rests on this, as none does on `Starts`.
+//! much is waited for at once. A loop that has to choose by what it sees begins with what the loop before it has seen: a wrong
+//! guess of what it sees would else wait, too. No promise rests on this, as none does on `Starts`.
 
 use crate::acts::Act;
+use crate::search::low_half;
 use crate::starts::{Starts, Stretch};
 use crate::strand::Strand;
 use node_cell::{CellEntry, CellInput};
@@ -21,12 +23,6 @@ struct Sight {
     sender: Id,
     near: Stretch,
     guess: Option<usize>,
-    /// What was seen first of what the entry sent and noted, then of the lists in it and in what came, and then of the message that
-    /// stands where it is guessed. Nothing is done with it.
-    sent: u64,
-    is_answer: bool,
-    listed: u64,
-    there: u64,
 }
 
 /// How much entries send and note.
@@ -40,6 +36,18 @@ pub(crate) struct Load {
 #[derive(Clone, Copy)]
 pub(crate) struct Ahead {
     sights: [Sight; TOGETHER],
+    /// What was seen last, in one number. Nothing is done with it; but what is not kept would not be looked at.
+    seen: u64,
+}
+
+impl Load {
+    /// With what one more entry sends and notes.
+    fn with(self, entry: &CellEntry) -> Load {
+        Load {
+            sent: self.sent.saturating_add(entry.sent.as_slice().len()),
+            noted: self.noted.saturating_add(entry.notes.as_slice().len()),
+        }
+    }
 }
 
 impl Sight {
@@ -50,10 +58,6 @@ impl Sight {
             sender: Id(0),
             near: Stretch { from: 0, upto: 0 },
             guess: None,
-            sent: 0,
-            is_answer: false,
-            listed: 0,
-            there: 0,
         }
     }
 
@@ -64,34 +68,19 @@ impl Sight {
             sight.stamp = envelope.stamp;
             sight.sender = envelope.sender;
         }
-        if let Some(envelope) = entry.sent.as_slice().first() {
-            sight.sent = envelope.stamp;
-        }
-        if let Some(note) = entry.notes.as_slice().first() {
-            sight.is_answer = matches!(note, Note::Answered { .. });
-        }
         sight
     }
 
-    /// Looks at the lists in what came to an entry, and in what it sent and noted first.
-    fn look_at_lists(&mut self, entry: &CellEntry) {
-        if let CellInput::Comes(envelope) = &entry.input {
-            self.listed ^= glimpse(&envelope.message);
-        }
-        if let Some(envelope) = entry.sent.as_slice().first() {
-            self.listed ^= glimpse(&envelope.message);
-        }
-        if let Some(Note::Answered { reply, .. }) = entry.notes.as_slice().first() {
-            self.listed ^= glimpse_of_reply(reply);
-        }
-    }
-
-    /// Looks at the message that stands where it is guessed, with which the one that came is compared.
-    fn look_there(&mut self, sent: &[Envelope]) {
-        if let Some(place) = self.guess
-            && let Some(envelope) = sent.get(place)
-        {
-            self.there = glimpse(&envelope.message);
+    /// What is seen first where it is guessed, and of the envelope before.
+    fn glimpse(&self, sent: &[Envelope]) -> u64 {
+        let Some(place) = self.guess else {
+            return 0;
+        };
+        match (sent.get(place.saturating_sub(1)), sent.get(place)) {
+            (Some(before), Some(envelope)) => {
+                low_half(before.sender) ^ glimpse_of_envelope(envelope)
+            }
+            _ => 0,
         }
     }
 
@@ -110,6 +99,16 @@ impl Sight {
             _ => false,
         }
     }
+
+    /// What is seen of the list in the message that stands where it is guessed, with which the one that came is compared.
+    fn glimpse_of_list(&self, sent: &[Envelope]) -> u64 {
+        match self.guess {
+            Some(place) => sent
+                .get(place)
+                .map_or(0, |envelope| glimpse_of_list(&envelope.message)),
+            None => 0,
+        }
+    }
 }
 
 impl Ahead {
@@ -117,11 +116,12 @@ impl Ahead {
     pub(crate) fn new() -> Ahead {
         Ahead {
             sights: [Sight::none(); TOGETHER],
+            seen: 0,
         }
     }
 
     /// Looks at the first of these entries, and at where what they take in may stand among what was sent. Tells how much they send
-    /// and note. It is a call of its own, since what is seen would else be taken for unused, and not be looked at.
+    /// and note. It is a call of its own, so that what is seen is kept.
     #[inline(never)]
     pub(crate) fn look<S: Strand>(
         &mut self,
@@ -130,35 +130,59 @@ impl Ahead {
         sent: &[Envelope],
         starts: &Starts,
     ) -> Load {
+        let mut entries = [None; TOGETHER];
+        for number in 0..TOGETHER {
+            if let Some(act) = acts.get(number) {
+                entries[number] = entry_of(act, strands);
+            }
+        }
+        self.look_at_entries(&entries);
+        let load = self.take_in(&entries, starts);
+        for entry in entries.iter() {
+            self.seen ^= entry.map_or(0, glimpse_of_lists);
+        }
+        self.look_there(sent, starts);
+        load
+    }
+
+    /// Looks at all of each entry, whatever stands in it.
+    fn look_at_entries(&mut self, entries: &[Option<&CellEntry>; TOGETHER]) {
+        for entry in entries.iter() {
+            self.seen ^= entry.map_or(0, glimpse_of_entry);
+        }
+    }
+
+    /// What these entries take in, and how much they send and note. Looks at the first that each sent and noted.
+    fn take_in(&mut self, entries: &[Option<&CellEntry>; TOGETHER], starts: &Starts) -> Load {
         let mut load = Load { sent: 0, noted: 0 };
-        for (sight, act) in self.sights.iter_mut().zip(acts) {
+        for (sight, entry) in self.sights.iter_mut().zip(entries.iter()) {
             *sight = Sight::none();
-            if let Some(entry) = entry_of(act, strands) {
+            if let Some(entry) = entry {
                 *sight = Sight::of(entry);
-                load.sent = load.sent.saturating_add(entry.sent.as_slice().len());
-                load.noted = load.noted.saturating_add(entry.notes.as_slice().len());
+                load = load.with(entry);
+                self.seen ^= glimpse_of_firsts(entry);
             }
-        }
-        for (sight, act) in self.sights.iter_mut().zip(acts) {
-            if let Some(entry) = entry_of(act, strands) {
-                sight.look_at_lists(entry);
-            }
-        }
-        for sight in self.sights.iter_mut() {
             sight.near = starts.near(sight.stamp);
         }
+        load
+    }
+
+    /// Guesses where what is taken in stands, and looks there.
+    fn look_there(&mut self, sent: &[Envelope], starts: &Starts) {
         for sight in self.sights.iter_mut() {
             sight.guess = starts.first_of(sight.near, sight.sender);
+        }
+        for sight in self.sights.iter() {
+            self.seen ^= sight.glimpse(sent);
         }
         for sight in self.sights.iter_mut() {
             if !sight.is_right(sent) {
                 sight.guess = None;
             }
         }
-        for sight in self.sights.iter_mut() {
-            sight.look_there(sent);
+        for sight in self.sights.iter() {
+            self.seen ^= sight.glimpse_of_list(sent);
         }
-        load
     }
 
     /// Where the message may stand that is taken in by the entry of this number, one of those looked at last.
@@ -172,8 +196,50 @@ fn entry_of<'a, S: Strand>(act: &Act, strands: &'a [S]) -> Option<&'a CellEntry>
     strands.get(act.history as usize)?.entry(act.place as usize)
 }
 
-/// What is seen first of a message: of the list in it, if it has one, or of what stands in it.
-fn glimpse(message: &Message) -> u64 {
+/// What is seen of an entry, so that all of it was looked at.
+fn glimpse_of_entry(entry: &CellEntry) -> u64 {
+    let came = match &entry.input {
+        CellInput::Comes(envelope) => envelope.stamp,
+        _ => 0,
+    };
+    let (sent, notes) = (entry.sent.as_slice(), entry.notes.as_slice());
+    entry.stamp ^ came ^ sent.len() as u64 ^ notes.len() as u64
+}
+
+/// What is seen of the first that an entry sent and noted.
+fn glimpse_of_firsts(entry: &CellEntry) -> u64 {
+    let sent = entry.sent.as_slice().first().map_or(0, glimpse_of_envelope);
+    match entry.notes.as_slice().first() {
+        Some(note) => sent ^ u64::from(matches!(note, Note::Answered { .. })),
+        None => sent,
+    }
+}
+
+/// What is seen of an envelope, so that its beginning, its middle and its message were looked at.
+fn glimpse_of_envelope(envelope: &Envelope) -> u64 {
+    let kind = u64::from(matches!(envelope.message, Message::Announce));
+    low_half(envelope.sender) ^ envelope.stamp ^ kind
+}
+
+/// What is seen of the lists in what came to an entry, and in what it sent and noted first.
+fn glimpse_of_lists(entry: &CellEntry) -> u64 {
+    let came = match &entry.input {
+        CellInput::Comes(envelope) => glimpse_of_list(&envelope.message),
+        _ => 0,
+    };
+    let sent = entry
+        .sent
+        .as_slice()
+        .first()
+        .map_or(0, |envelope| glimpse_of_list(&envelope.message));
+    match entry.notes.as_slice().first() {
+        Some(Note::Answered { reply, .. }) => came ^ sent ^ glimpse_of_reply(reply),
+        _ => came ^ sent,
+    }
+}
+
+/// What is seen first of the list in a message, if it has one.
+fn glimpse_of_list(message: &Message) -> u64 {
     match message {
         Message::Insert { bytes, .. }
         | Message::Replicate { bytes, .. }
@@ -185,10 +251,6 @@ fn glimpse(message: &Message) -> u64 {
         | Message::InsertReply { reply, .. }
         | Message::FetchReply { reply, .. }
         | Message::ReclaimReply { reply, .. } => glimpse_of_reply(reply),
-        Message::Lookup { number, .. }
-        | Message::Fetch { number, .. }
-        | Message::Reclaim { number, .. }
-        | Message::ReplicaAck { number, .. } => *number,
         _ => 0,
     }
 }
@@ -206,7 +268,5 @@ fn first_byte(bytes: &Bytes) -> u64 {
 }
 
 fn first_id(ids: &Ids) -> u64 {
-    ids.as_slice()
-        .first()
-        .map_or(0, |id| (id.0 % (1 << 64)) as u64)
+    ids.as_slice().first().map_or(0, |id| low_half(*id))
 }

@@ -13,6 +13,7 @@ mod reading;
 mod relay;
 mod search;
 mod starts;
+mod stop;
 mod strand;
 mod through;
 mod untaken;

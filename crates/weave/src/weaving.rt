@@ -1,6 +1,7 @@
 //! The woven record of cells.
 
-ghost use Rattle.std.specs.Prelude.{◌≡◌, [], true, IfOk, IfErr, OnOk, All, map};
+ghost use Rattle.std.specs.Prelude.{◌≡◌, [], true, IfOk, IfErr, OnOk, All, Contains, map};
+ghost use Rattle.ring_math.specs.Names.{Id};
 ghost use Rattle.std.specs.List.{AllZip};
 ghost use Rattle.wire_msg.specs.Words.{plain_envelope};
 ghost use Rattle.overlay_rules.specs.Record.{Legal, all_differ, sent_in};
@@ -13,7 +14,8 @@ ghost use Rattle.weave.specs.Follow.{FollowSendings};
 ghost use Rattle.weave.specs.Growing.{HasOneMore, IsEmptied, KeepsOthers};
 ghost use Rattle.weave.specs.Placed.{IsWithin, act_at, acts_in, placed, sent_by};
 ghost use Rattle.weave.specs.Stray.{IsDueTo};
-ghost use Rattle.weave.specs.Stops.{IsStopAt, StopsAt};
+ghost use Rattle.weave.specs.Stops.{IsHaltAt, StopsAt};
+ghost use Rattle.weave.specs.declared.stop.Stop.TheVariants as Stop;
 
 use crate::acts::{Act, woven_order};
 use crate::ahead::{Ahead, TOGETHER};
@@ -21,6 +23,7 @@ use crate::fault::WeaveFault;
 use crate::given::given_by;
 use crate::search::place_among;
 use crate::starts::Starts;
+use crate::stop::{Stop, fault_at};
 use crate::strand::{Strand, lent_by};
 use node_cell::{CellInput, NodeCell};
 use overlay_rules::{Entries, Event, Record};
@@ -86,7 +89,10 @@ fn entries_of<S: Strand>(
     let mut weaving = Weaving::new(alloc, acts.len())?;
     for act in acts {
         weaving.look_ahead(acts, strands)?;
-        weaving.add(alloc, act, strands)?;
+        match weaving.add(alloc, act, strands) {
+            Ok(()) => {}
+            Err(stop) => return Err(fault_at(alloc, act, strands, stop)),
+        }
     }
     Ok(weaving.entries)
 }
@@ -105,13 +111,14 @@ pub(crate) struct Weaving {
 }
 
 impl Weaving {
-    /// No entry, of so many that are to come.
+    /// No entry, of so many that are to come. There is room for as many messages, since each comes in once, if none is lost and none
+    /// repeated.
     fn new(alloc: Global, count: usize) -> Result<Weaving, OutOfMemory>
         ensures entries { IfOk result (λ weaving. weaving.entries ≡ []) }
         ensures emptied { IfOk result IsEmptied }
     {
         Ok(Weaving {
-            entries: Entries::with_room(alloc, count, 0)?,
+            entries: Entries::with_room(alloc, count, count)?,
             starts: Starts::new(alloc, count),
             ahead: Ahead::new(),
             messages: Vec::new(alloc),
@@ -141,19 +148,15 @@ impl Weaving {
 
     /// The entry that one of a history becomes. What it took in is sought among what the entries before it sent, where the record
     /// has just got it. Its messages and notes share the bytes that the history has, or are those of the history.
-    fn add<S: Strand>(
-        &mut self,
-        alloc: Global,
-        act: &Act,
-        strands: &mut [S],
-    ) -> Result<(), WeaveFault>
+    fn add<S: Strand>(&mut self, alloc: Global, act: &Act, strands: &mut [S]) -> Result<(), Stop>
         requires sorted { AreByStamp (sent_in self.old.entries) }
         requires emptied { IsEmptied self.old }
         requires within { IsWithin (map S.history strands.old) act.now }
         ensures ok { OnOk result (HasOneMore (act_at (map S.history strands.old) act.now) self.old.entries self.new.entries) }
         ensures emptied { OnOk result (IsEmptied self.new) }
         ensures others { OnOk result (KeepsOthers act.now (map S.history strands.old) (map S.history strands.new)) }
-        ensures err { IfErr result (IsStopAt (sent_in self.old.entries) (placed (map S.history strands.old) act.now)) }
+        ensures err { IfErr result (IsHaltAt (sent_in self.old.entries) (placed (map S.history strands.old) act.now)) }
+        ensures same { IfErr result (λ stop. stop ≡ Stop.Stray → map S.history strands.new ≡ map S.history strands.old) }
     {
         let node = act.node(strands);
         let event = self.event_of(alloc, act, strands)?;
@@ -165,16 +168,11 @@ impl Weaving {
     }
 
     /// The event that what an entry took in becomes, as the next of the record.
-    fn event_of<S: Strand>(
-        &self,
-        alloc: Global,
-        act: &Act,
-        strands: &[S],
-    ) -> Result<Event, WeaveFault>
+    fn event_of<S: Strand>(&self, alloc: Global, act: &Act, strands: &[S]) -> Result<Event, Stop>
         requires sorted { AreByStamp (sent_in self.now.entries) }
         requires within { IsWithin (map S.history strands.now) act.now }
         ensures ok { let own = act_at (map S.history strands.now) act.now in IfOk result (IsEventOf (sent_in self.now.entries) own.node own.entry.input) }
-        ensures err { IfErr result (IsStopAt (sent_in self.now.entries) (placed (map S.history strands.now) act.now)) }
+        ensures err { IfErr result (IsHaltAt (sent_in self.now.entries) (placed (map S.history strands.now) act.now)) }
     {
         // What is gone would be as noise; none of these is.
         let Some(entry) = act.entry(strands) else {
@@ -188,36 +186,24 @@ impl Weaving {
                 number: *number,
                 command: command.copy(alloc)?,
             }),
-            CellInput::Comes(envelope) => self.delivery_of(alloc, act, strands, envelope),
+            CellInput::Comes(envelope) => self.delivery_of(envelope),
             CellInput::Noise => Ok(Event::Noise {
                 node: act.node(strands),
             }),
         }
     }
 
-    /// The delivery of a message that came to the node of an entry.
-    fn delivery_of<S: Strand>(
-        &self,
-        alloc: Global,
-        act: &Act,
-        strands: &[S],
-        envelope: &Envelope,
-    ) -> Result<Event, WeaveFault>
-        requires sorted { AreByStamp (sent_in self.now.entries) }
-        requires within { IsWithin (map S.history strands.now) act.now }
-        requires comes { (act_at (map S.history strands.now) act.now).entry.input ≡ Comes (plain_envelope envelope.now) }
-        ensures ok { IfOk result (IsEventOf (sent_in self.now.entries) (act_at (map S.history strands.now) act.now).node (Comes (plain_envelope envelope.now))) }
-        ensures err { IfErr result (IsStopAt (sent_in self.now.entries) (placed (map S.history strands.now) act.now)) }
+    /// The delivery of a message that came.
+    fn delivery_of(&self, envelope: &Envelope) -> Result<Event, Stop>
+        requires { AreByStamp (sent_in self.now.entries) }
+        ensures ok { (x : Id) → IfOk result (IsEventOf (sent_in self.now.entries) x (Comes (plain_envelope envelope.now))) }
+        ensures err { IfErr result (λ stop. stop ≡ Stop.Stray × (Contains (sent_in self.now.entries) (plain_envelope envelope.now) → ⊥)) }
     {
         match place_among(self.entries.sent(), self.guess_of(envelope), envelope) {
             Some(message) => Ok(Event::Deliver {
                 message: message as u64,
             }),
-            None => Err(WeaveFault::Stray {
-                node: act.node(strands),
-                place: act.place as u64,
-                envelope: envelope.copy(alloc)?,
-            }),
+            None => Err(Stop::Stray),
         }
     }
 
