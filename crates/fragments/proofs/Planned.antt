@@ -1,6 +1,6 @@
 -- The large scenario keeps the rules of scenarios: the names of its files differ, and its tasks are within the limits.
 use Rattle.std.proofs.Common.{◌≡◌, ◌≢◌, ◌<◌, ◌≤◌, ℕ, suc, ◌+◌, ◌-◌, ◌*◌, true, IsTrue, List, [], ◌∷◌, ◌++◌, length, length-append, codes}
-use Rattle.std.proofs.Common.{map, get_or, replicate, AllPairs}
+use Rattle.std.proofs.Common.{map, get_or, AllPairs}
 use Rattle.std.proofs.Common.{refl, sym, subst, ap, ◌∙◌, zero-add, arith, add-one, append_assoc, append-nil, drop, drop-cons}
 use Rattle.std.specs.List.{flat_map, range_with_len}
 use Rattle.std.proofs.lemmas.List.{map-append, length-take, drop_all}
@@ -158,12 +158,6 @@ fragments_few seed size h =
     let bytes = length-take size (stream_bytes seed 1 (div_ceil size 4)) in
     let counted = length-map-range_with_len (fragment (generated seed size)) 0 (fragment_count (length (generated_bytes seed size))) in
     let few = (count_few (length (generated_bytes seed size)) (omega arith)).0 in omega arith
-
-pub pieces_are : (seed size : ℕ) (bytes : List ℕ) (pieces : Pieces) →
-    pieces ≡ pieces_of (record { name = codes "l"; owner = []; salt = replicate 8 0; bytes = bytes }) → bytes ≡ generated_bytes seed size →
-    pieces ≡ pieces_of (generated seed size)
-pieces_are seed size bytes pieces is same =
-    is ∙ ap (λ (bs : List ℕ). pieces_of (record { name = codes "l"; owner = []; salt = replicate 8 0; bytes = bs })) same
 
 pub pieces_few : (seed size : ℕ) (pieces : Pieces) → pieces ≡ pieces_of (generated seed size) → size ≤ 835584 → length pieces.fragments ≤ 204
 pieces_few seed size pieces is h = subst (λ (p : Pieces). length p.fragments ≤ 204) (sym is) (fragments_few seed size h)

@@ -39,3 +39,10 @@ index_of f = piece_of f f.name (index_bytes (length f.bytes) (map (λ (p : Piece
 
 abbrev pub pieces_of : LargeFile → Pieces
 pieces_of f = record { index = index_of f; fragments = fragments_of f }
+
+-- these fragments, of the file of this name, owner and salt that has so many bytes, and the index that names them
+abbrev pub with_index : ℕ → List ℕ → List ℕ → List ℕ → List Piece → Pieces
+with_index size name owner salt fragments = record {
+  index = record { file = file_of name owner salt; name = name; bytes = index_bytes size (map (λ (p : Piece). p.file) fragments) };
+  fragments = fragments;
+}

@@ -5,7 +5,7 @@ ghost use Rattle.std.specs.Int.{w32, to_be_bytes};
 ghost use Rattle.std.specs.List.{flat_map};
 ghost use Rattle.fragments.specs.declared.limits.TheConstants.{MOST_LARGE_BYTES, MOST_LARGE_NAME, MOST_FRAGMENTS};
 ghost use Rattle.ring_math.specs.Keys.{file_of};
-ghost use Rattle.fragments.specs.Pieces.{index_bytes, pieces_of};
+ghost use Rattle.fragments.specs.Pieces.{index_bytes, pieces_of, with_index};
 ghost use Rattle.fragments.specs.declared.piece.Piece.{Piece as PlainPiece};
 
 use crate::fault::CutFault;
@@ -42,7 +42,7 @@ pub fn cut(
 }
 
 /// The pieces of a file.
-pub(crate) fn pieces_of(
+fn pieces_of(
     alloc: Global,
     name: &[u8],
     owner: &[u8],
@@ -54,12 +54,45 @@ pub(crate) fn pieces_of(
 {
     let mut fragments = Vec::new(alloc);
     for i in 0..bytes.len().div_ceil(MOST_BYTES) {
-        let name = fragment_name(alloc, name, i as u32)?;
         let start = MOST_BYTES * i;
         let end = bytes.len().min(start + MOST_BYTES);
-        fragments.push(piece(alloc, &name, owner, salt, &bytes[start..end])?)?;
+        fragments.push(fragment(alloc, name, owner, salt, i as u32, &bytes[start..end])?)?;
     }
-    let said = index_bytes(alloc, bytes.len() as u32, &fragments)?;
+    with_index(alloc, name, owner, salt, bytes.len() as u32, fragments)
+}
+
+/// A fragment of the file of this name, owner and salt, by its number and its bytes.
+pub(crate) fn fragment(
+    alloc: Global,
+    name: &[u8],
+    owner: &[u8],
+    salt: &[u8; 8],
+    number: u32,
+    bytes: &[u8],
+) -> Result<Piece, OutOfMemory>
+    ensures { IfOk result (λ piece. piece ≡ record {
+      file = file_of (name.now ++ to_be_bytes w32 number) owner.now salt.now;
+      name = name.now ++ to_be_bytes w32 number;
+      bytes = bytes.now;
+    }) }
+{
+    let name = fragment_name(alloc, name, number)?;
+    piece(alloc, &name, owner, salt, bytes)
+}
+
+/// The fragments of the file of this name, owner and salt that has so many bytes, and the index that names them.
+pub(crate) fn with_index(
+    alloc: Global,
+    name: &[u8],
+    owner: &[u8],
+    salt: &[u8; 8],
+    size: u32,
+    fragments: Vec<Piece>,
+) -> Result<Pieces, OutOfMemory>
+    requires { length fragments.items ≤ MOST_FRAGMENTS }
+    ensures { IfOk result (λ pieces. pieces ≡ with_index size name.now owner.now salt.now fragments.items) }
+{
+    let said = index_bytes(alloc, size, &fragments)?;
     let index = piece(alloc, name, owner, salt, &said)?;
     let fragments = PieceList { items: fragments };
     Ok(Pieces { index, fragments })

@@ -3,13 +3,14 @@
 ghost use Rattle.std.specs.Prelude.{◌≡◌, ◌≤◌, ◌<◌, ◌++◌, length, IfOk, OnOk};
 ghost use Rattle.scenario_reader.specs.declared.limits.TheConstants.{MOST_NODES};
 ghost use Rattle.fragments.specs.declared.limits.TheConstants.{MOST_LARGE_BYTES, MOST_FRAGMENTS};
-ghost use Rattle.fragments.specs.Large.{generated_bytes, declared, fragment_label, declared_from, declared_pieces, store_tasks, retrieve_tasks, large_plan, large};
+ghost use Rattle.fragments.specs.Pieces.{pieces_of};
+ghost use Rattle.fragments.specs.Large.{generated, declared, fragment_label, declared_from, declared_pieces, store_tasks, retrieve_tasks, large_plan, large};
 
-use crate::cutting::pieces_of;
+use crate::cutting::{fragment, with_index};
 use crate::piece::{Piece, Pieces};
-use ring_math::OutOfMemory;
+use ring_math::{MOST_BYTES, OutOfMemory};
 use scenario_reader::{Name, Scenario};
-use schedule::{Made, MadeFile, Task, fill_from_stream, plan_joins, scenario_of};
+use schedule::{Made, MadeFile, Task, Words, plan_joins, scenario_of};
 use std::alloc::Global;
 
 /// The stream of a seed's random words of which the bytes of a large file are made. The nodes are made of stream 0.
@@ -35,8 +36,7 @@ pub fn large_scenario(
     requires fits { size ≤ MOST_LARGE_BYTES }
     ensures { IfOk result (λ scenario. scenario ≡ large nodes seed size) }
 {
-    let bytes = generated_bytes(alloc, seed, size as usize)?;
-    let pieces = pieces_of(alloc, b"l", b"", &[0; 8], &bytes)?;
+    let pieces = generated_pieces(alloc, seed, size as usize)?;
     let fragments = pieces.fragments.as_slice().len() as u32;
     let files = declared_pieces(alloc, &pieces)?;
     let made = Made::new(alloc, nodes, seed, files)?;
@@ -44,15 +44,24 @@ pub fn large_scenario(
     scenario_of(alloc, &made, &tasks)
 }
 
-/// So many bytes of a seed's words.
-fn generated_bytes(alloc: Global, seed: u64, size: usize) -> Result<Vec<u8>, OutOfMemory>
+/// The pieces of a file of so many bytes of a seed's words. It is called `l`, and has no owner and no salt. The file is never
+/// made as a whole, since that would take a megabyte to be cleared, filled and copied: the next words fill the same small room
+/// for each fragment.
+fn generated_pieces(alloc: Global, seed: u64, size: usize) -> Result<Pieces, OutOfMemory>
     requires { size ≤ MOST_LARGE_BYTES }
-    ensures { IfOk result (λ bytes. bytes.items ≡ generated_bytes seed size) }
+    ensures { IfOk result (λ pieces. pieces ≡ pieces_of (generated seed size)) }
 {
-    let mut bytes = vec![in alloc; 0; 4 * size.div_ceil(4)]?;
-    fill_from_stream(seed, STREAM, &mut bytes);
-    bytes.truncate(size);
-    Ok(bytes)
+    let (name, owner, salt) = (b"l", b"", &[0; 8]);
+    let mut words = Words::of_stream(seed, STREAM);
+    let mut room = [0; MOST_BYTES];
+    let mut fragments = Vec::new(alloc);
+    for i in 0..size.div_ceil(MOST_BYTES) {
+        words.fill(&mut room);
+        let left = size - MOST_BYTES * i;
+        let bytes = &room[..left.min(MOST_BYTES)];
+        fragments.push(fragment(alloc, name, owner, salt, i as u32, bytes)?)?;
+    }
+    with_index(alloc, name, owner, salt, size as u32, fragments)
 }
 
 /// The pieces as files of the scenario: the fragments and then the index.

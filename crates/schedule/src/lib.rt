@@ -20,7 +20,7 @@ pub use make::{make_scenario, scenario_of};
 pub use shuffle_words::ShuffleWords;
 pub use task::{MADE_FILES, Task, plan_joins};
 pub use turn::Turn;
-pub use words::fill_from_stream;
+pub use words::Words;
 
 #[cfg(test)]
 mod tests;

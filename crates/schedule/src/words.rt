@@ -2,16 +2,16 @@
 
 ghost use Rattle.std.specs.Prelude.{◌≡◌, ◌%◌, ◌/◌, length};
 ghost use Rattle.rand_chacha.specs.ChaCha.{next_word};
-ghost use Rattle.schedule.specs.Words.{key_bytes, generator_at, stream_start, stream_bytes, generator_after, words_to_come, bytes_of};
+ghost use Rattle.schedule.specs.Words.{key_bytes, generator_at, stream_start, generator_after, words_to_come, bytes_of};
 
 use rand_chacha::ChaCha8Rng;
 use rand_core::SeedableRng;
 use rand_core::utils::NextWord;
 use std::marker::Model;
 
-/// The words of ChaCha8 with the key of a seed, from its start on.
+/// The words of ChaCha8 with the key of a seed, one after another.
 #[derive(Drop)]
-pub(crate) struct Words {
+pub struct Words {
     generator: ChaCha8Rng,
 }
 
@@ -33,6 +33,7 @@ fn key_bytes(seed: u64) -> [u8; 32]
 }
 
 impl Words {
+    /// The words of stream 0, from its start on.
     pub(crate) fn new(seed: u64) -> Words
         ensures { result ≡ generator_at seed 0 }
     {
@@ -41,7 +42,7 @@ impl Words {
         }
     }
 
-    /// The words from a place on.
+    /// The words of stream 0, from a place on.
     pub(crate) fn from_place(seed: u64, place: u32) -> Words
         ensures { result ≡ generator_at seed place }
     {
@@ -50,8 +51,8 @@ impl Words {
         words
     }
 
-    /// The words of another stream, from its start on.
-    fn of_stream(seed: u64, stream: u64) -> Words
+    /// The words of a stream, from its start on. Nodes and files are made of those of stream 0.
+    pub fn of_stream(seed: u64, stream: u64) -> Words
         ensures { result ≡ stream_start seed stream }
     {
         let mut words = Words::new(seed);
@@ -66,9 +67,10 @@ impl Words {
         self.generator.next_word()
     }
 
-    /// Fills bytes with the next words, each most significant byte first.
+    /// Fills bytes with the next words, each most significant byte first. The next call goes on behind them: who needs many
+    /// bytes, but only some at a time, fills the same few again and again.
     #[tactic(auto, unfolding(crate::specs::Words::words_to_come, crate::specs::Words::generator_after))]
-    pub(crate) fn fill(&mut self, bytes: &mut [u8])
+    pub fn fill(&mut self, bytes: &mut [u8])
         requires { length bytes.old % 4 ≡ 0 }
         ensures bytes { bytes.new ≡ bytes_of (words_to_come self.old (length bytes.old / 4)) }
         ensures after { self.new ≡ generator_after self.old (length bytes.old / 4) }
@@ -78,12 +80,4 @@ impl Words {
             bytes[4 * i..4 * i + 4].copy_from_slice(&word.to_be_bytes());
         }
     }
-}
-
-/// Fills bytes with the words of a stream of a seed's generator, from its start on, each most significant byte first.
-pub fn fill_from_stream(seed: u64, stream: u64, bytes: &mut [u8])
-    requires { length bytes.old % 4 ≡ 0 }
-    ensures { bytes.new ≡ stream_bytes seed stream (length bytes.old / 4) }
-{
-    Words::of_stream(seed, stream).fill(bytes);
 }
