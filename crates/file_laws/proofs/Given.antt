@@ -34,10 +34,11 @@ use Rattle.fragments.specs.declared.piece.Pieces.{Pieces}
 use Rattle.fragments.specs.Joined.{all_found, first_from, fragment_fault, is_missing, join_fault, joined, stated_size}
 use Rattle.fragments.specs.Large.{generated, generated_bytes, large, large_making, large_plan, retrieve_tasks, store_tasks}
 use Rattle.fragments.specs.Pieces.{LargeFile, fragment, fragment_count, pieces_of}
+use Rattle.fragments.proofs.Generated.{generated_long}
 use Rattle.fragments.proofs.Returning.{comes_back}
 use Rattle.large_report.specs.Large.{is_whole, retrieved}
 use Rattle.file_laws.specs.Given.{IsGiven, WasStored, storings}
-use Rattle.file_laws.proofs.Filed.{fragment_at, generated_long}
+use Rattle.file_laws.proofs.Filed.{fragment_at}
 use Rattle.file_laws.proofs.Numbered.{IsAt, IsNumbered, commands_counted, commands_in, commands_in-append, commands_in-each, play_numbered}
 use Rattle.file_laws.proofs.Told.{IsTold, accepted_whole, closing_tells, in_whole}
 
