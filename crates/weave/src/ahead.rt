@@ -71,33 +71,20 @@ impl Sight {
         sight
     }
 
-    /// What is seen first where it is guessed, and of the envelope before.
-    fn glimpse(&self, sent: &[Envelope]) -> u64 {
-        let Some(place) = self.guess else {
+    /// Forgets a guess where no envelope of the stamp and the sender stands, or one of a later stamp before it. Answers what was seen.
+    fn check(&mut self, sent: &[Envelope]) -> u64 {
+        let place = self.guess.unwrap_or(usize::MAX);
+        let (Some(before), Some(envelope)) = (sent.get(place.saturating_sub(1)), sent.get(place))
+        else {
+            self.guess = None;
             return 0;
         };
-        match (sent.get(place.saturating_sub(1)), sent.get(place)) {
-            (Some(before), Some(envelope)) => {
-                low_half(before.sender) ^ glimpse_of_envelope(envelope)
-            }
-            _ => 0,
-        }
-    }
-
-    /// Whether an envelope of the stamp and the sender stands where it is guessed, and none of a later stamp before it.
-    fn is_right(&self, sent: &[Envelope]) -> bool {
-        let Some(place) = self.guess else {
-            return false;
-        };
-        match (sent.get(place.saturating_sub(1)), sent.get(place)) {
-            // All are looked at, whatever the first says.
-            (Some(before), Some(envelope)) => {
-                (before.stamp <= self.stamp)
-                    & (envelope.stamp == self.stamp)
-                    & (envelope.sender == self.sender)
-            }
-            _ => false,
-        }
+        // All are looked at, whatever the first says.
+        let right = (before.stamp <= self.stamp)
+            & (envelope.stamp == self.stamp)
+            & (envelope.sender == self.sender);
+        self.guess = if right { Some(place) } else { None };
+        low_half(before.sender) ^ glimpse_of_envelope(envelope)
     }
 
     /// What is seen of the list in the message that stands where it is guessed, with which the one that came is compared.
@@ -136,8 +123,13 @@ impl Ahead {
                 entries[number] = entry_of(act, strands);
             }
         }
-        self.look_at_entries(&entries);
+        for entry in entries.iter() {
+            self.seen ^= entry.map_or(0, glimpse_of_entry);
+        }
         let load = self.take_in(&entries, starts);
+        for entry in entries.iter() {
+            self.seen ^= entry.map_or(0, glimpse_of_firsts);
+        }
         for entry in entries.iter() {
             self.seen ^= entry.map_or(0, glimpse_of_lists);
         }
@@ -145,14 +137,7 @@ impl Ahead {
         load
     }
 
-    /// Looks at all of each entry, whatever stands in it.
-    fn look_at_entries(&mut self, entries: &[Option<&CellEntry>; TOGETHER]) {
-        for entry in entries.iter() {
-            self.seen ^= entry.map_or(0, glimpse_of_entry);
-        }
-    }
-
-    /// What these entries take in, and how much they send and note. Looks at the first that each sent and noted.
+    /// What these entries take in, and how much they send and note.
     fn take_in(&mut self, entries: &[Option<&CellEntry>; TOGETHER], starts: &Starts) -> Load {
         let mut load = Load { sent: 0, noted: 0 };
         for (sight, entry) in self.sights.iter_mut().zip(entries.iter()) {
@@ -160,7 +145,6 @@ impl Ahead {
             if let Some(entry) = entry {
                 *sight = Sight::of(entry);
                 load = load.with(entry);
-                self.seen ^= glimpse_of_firsts(entry);
             }
             sight.near = starts.near(sight.stamp);
         }
@@ -172,13 +156,8 @@ impl Ahead {
         for sight in self.sights.iter_mut() {
             sight.guess = starts.first_of(sight.near, sight.sender);
         }
-        for sight in self.sights.iter() {
-            self.seen ^= sight.glimpse(sent);
-        }
         for sight in self.sights.iter_mut() {
-            if !sight.is_right(sent) {
-                sight.guess = None;
-            }
+            self.seen ^= sight.check(sent);
         }
         for sight in self.sights.iter() {
             self.seen ^= sight.glimpse_of_list(sent);

@@ -9,7 +9,7 @@ use wire_msg::Envelope;
 /// asks looks whether what they say is so.
 #[derive(Drop)]
 pub(crate) struct Starts {
-    rows: Vec<usize>,
+    rows: Vec<u32>,
     marks: Vec<u16>,
     last_row: usize,
 }
@@ -33,13 +33,18 @@ impl Starts {
 
     /// So many envelopes more, of a stamp that is not lower than any before, and a sender.
     pub(crate) fn add(&mut self, stamp: u64, sender: Id, count: usize) -> Result<(), OutOfMemory> {
+        // Rows that are wanting begin where the next envelopes do.
+        if count == 0 {
+            return Ok(());
+        }
         let begin = self.marks.len();
         let row = stamp.min(self.last_row as u64) as usize;
         if self.rows.len() <= row {
             let rows = row.saturating_add(1);
             let more = rows.saturating_sub(self.rows.len());
             reserve_ahead(&mut self.rows, more)?;
-            self.rows.resize(rows, begin)?;
+            self.rows
+                .resize(rows, u32::try_from(begin).unwrap_or(u32::MAX))?;
         }
         reserve_ahead(&mut self.marks, count)?;
         self.marks
@@ -79,7 +84,7 @@ impl Starts {
     fn start(&self, row: usize) -> usize {
         let count = self.marks.len();
         match self.rows.get(row) {
-            Some(start) => count.min(*start),
+            Some(start) => count.min(*start as usize),
             None => count,
         }
     }
