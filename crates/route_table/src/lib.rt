@@ -21,11 +21,6 @@ use std::marker::Model;
 /// How many entries there are: a row for each digit, and a column for each of its values.
 const ENTRIES: usize = DIGITS as usize * DIGIT_VALUES as usize;
 
-/// Room for so many identifiers more than there are entries. The tables of many nodes lie one behind another. With a power of two
-/// of bytes each they would all begin at the same place of a page, where a cache has room for few, and one node's entries would
-/// push out another's.
-const SPREAD: usize = 4;
-
 /// How an identifier stands to a table.
 #[derive(Clone, Copy, Debug, PartialEq, Eq)]
 pub enum Standing {
@@ -125,7 +120,7 @@ impl RouteTable {
         ensures me { IfOk result (λ table. table.me ≡ me) }
         ensures stands { IfOk result (λ table. StandsFor table []) }
     {
-        let ids = Vec::with_capacity(alloc, ENTRIES + SPREAD)?;
+        let ids = Vec::with_capacity(alloc, ENTRIES)?;
         Ok(RouteTable { me, ids })
     }
 
@@ -140,7 +135,7 @@ impl RouteTable {
     pub fn copy(&self, alloc: Global) -> Result<RouteTable, OutOfMemory>
         ensures { IfOk result (λ copy. copy ≡ self.now) }
     {
-        let mut ids = Vec::with_capacity(alloc, ENTRIES + SPREAD)?;
+        let mut ids = Vec::with_capacity(alloc, ENTRIES)?;
         ids.extend_from_slice(&self.ids)?;
         Ok(RouteTable { me: self.me, ids })
     }
