@@ -19,4 +19,4 @@ pub use change::{
 pub use lease::{Lease, bare, joiner_of};
 pub use node::Node;
 pub use seat::Seat;
-pub use view::{first_left, first_right, leaves_in, leaves_of};
+pub use view::{first_left, first_right, leaves_of};

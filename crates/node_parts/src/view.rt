@@ -130,7 +130,7 @@ fn learnt(leafs: &LeafSet, ids: &[Id]) -> LeafSet
 }
 
 /// The leaves of a leaf set in leaf order, in a list that takes no memory.
-pub fn leaves_in(leafs: &LeafSet) -> IdsBuilder
+fn leaves_in(leafs: &LeafSet) -> IdsBuilder
     ensures { (known : List ℕ) → StandsFor leafs.now known → result ≡ leaves leafs.now.me known }
 {
     let mut ids = IdsBuilder::new();

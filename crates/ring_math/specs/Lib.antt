@@ -8,3 +8,4 @@ pub mod Keys
 pub mod Texts
 pub mod Sides
 pub mod Files
+pub mod Shared

@@ -211,22 +211,24 @@ impl Ids {
     }
 }
 
-/// Identifiers of files, at most [`MOST_ENTRIES`], in an order that means something.
+/// Identifiers of files, at most [`MOST_ENTRIES`], in an order that means something. A list without any has no memory, so that
+/// nodes that hold no files, as while they join, count no owners of it.
 #[derive(Drop)]
 pub struct FileIds {
-    items: ArcSlice<FileId>,
+    items: Option<ArcSlice<FileId>>,
 }
 
 impl Model for FileIds {
     ghost use Rattle.std.specs.Prelude.{ℕ, List, length, ◌≤◌};
     ghost use Rattle.std.specs.Arc.{arc_slice_items};
+    ghost use Rattle.ring_math.specs.Shared.{items_in};
     ghost use Rattle.ring_math.specs.declared.limits.TheConstants.{MOST_ENTRIES};
 
     ghost Value = { List (List ℕ) };
 
-    ghost view = { λ a. arc_slice_items a.items };
+    ghost view = { λ a. items_in arc_slice_items a.items };
 
-    ghost invariant = { λ a. length (arc_slice_items a.items) ≤ MOST_ENTRIES };
+    ghost invariant = { λ a. length (items_in arc_slice_items a.items) ≤ MOST_ENTRIES };
 }
 
 impl FileIds {
@@ -235,8 +237,11 @@ impl FileIds {
         requires { length files.items ≤ MOST_ENTRIES }
         ensures { IfOk result (λ list. list ≡ files.items) }
     {
+        if files.is_empty() {
+            return Ok(FileIds { items: None });
+        }
         let items = ArcSlice::from_vec(files)?;
-        Ok(FileIds { items })
+        Ok(FileIds { items: Some(items) })
     }
 
     /// A copy of these files, which takes memory for no more.
@@ -244,8 +249,11 @@ impl FileIds {
         requires { length files.now ≤ MOST_ENTRIES }
         ensures { IfOk result (λ list. list ≡ files.now) }
     {
+        if files.is_empty() {
+            return Ok(FileIds { items: None });
+        }
         let items = ArcSlice::from_slice(alloc, files)?;
-        Ok(FileIds { items })
+        Ok(FileIds { items: Some(items) })
     }
 
     /// The files, in order.
@@ -253,14 +261,20 @@ impl FileIds {
         ensures value { result.now ≡ self.now }
         ensures limit { length self.now ≤ MOST_ENTRIES }
     {
-        self.items.as_slice()
+        match &self.items {
+            Some(items) => items.as_slice(),
+            None => &[],
+        }
     }
 
     /// The same files, shared.
     pub fn copy(&self, _alloc: Global) -> Result<FileIds, OutOfMemory>
         ensures { IfOk result (λ list. list ≡ self.now) }
     {
-        let items = self.items.clone()?;
-        Ok(FileIds { items })
+        let Some(items) = &self.items else {
+            return Ok(FileIds { items: None });
+        };
+        let items = items.clone()?;
+        Ok(FileIds { items: Some(items) })
     }
 }
