@@ -1,7 +1,7 @@
 //! What no clause says: pictures as they stand in the rules of the drawing, worked out by hand.
 
 use super::*;
-use overlay_rules::{Entries, Event};
+use overlay_rules::{CompactEvent, Entries, Event};
 use ring_math::{Bytes, FileId, Id, OutOfMemory};
 use std::alloc::Global;
 use std::process::Abort;
@@ -50,6 +50,7 @@ fn noted(alloc: Global, note: Note) -> Result<Notes, OutOfMemory> {
 
 /// One entry more, which is node B's or A's.
 fn add(
+    alloc: Global,
     entries: &mut Entries,
     event: Event,
     node: Id,
@@ -57,6 +58,7 @@ fn add(
     notes: Notes,
 ) -> Result<(), OutOfMemory> {
     let stamp = entries.next_stamp();
+    let event = CompactEvent::of(event, alloc)?;
     entries.add(event, stamp, node, sends, notes)
 }
 
@@ -69,7 +71,7 @@ fn looked_up(alloc: Global) -> Result<Entries, OutOfMemory> {
         command: Command::Lookup { key: KEY },
     };
     let asked = sent(alloc, B, lookup())?;
-    add(&mut entries, command, A, asked, Notes::new(alloc))?;
+    add(alloc, &mut entries, command, A, asked, Notes::new(alloc))?;
     for _ in 0..2 {
         let answered = sent(alloc, A, answer())?;
         let note = Note::Delivered {
@@ -79,6 +81,7 @@ fn looked_up(alloc: Global) -> Result<Entries, OutOfMemory> {
             hops: 1,
         };
         add(
+            alloc,
             &mut entries,
             Event::Deliver { message: 0 },
             B,
@@ -91,6 +94,7 @@ fn looked_up(alloc: Global) -> Result<Entries, OutOfMemory> {
         answer: Answer::Reply(REPLY),
     };
     add(
+        alloc,
         &mut entries,
         Event::Deliver { message: 1 },
         A,
@@ -111,6 +115,7 @@ fn fetched(alloc: Global) -> Result<Entries, Fail> {
     let file = FileId([1; 20]);
     let mut entries = Entries::new(alloc);
     add(
+        alloc,
         &mut entries,
         Event::Noise { node: B },
         B,
@@ -133,12 +138,13 @@ fn fetched(alloc: Global) -> Result<Entries, Fail> {
         reply: found(alloc)?,
     })?;
     let answered = sent(alloc, A, message)?;
-    add(&mut entries, command, A, answered, notes)?;
+    add(alloc, &mut entries, command, A, answered, notes)?;
     let closed = Note::Closed {
         number: 2,
         answer: Answer::Reply(found(alloc)?),
     };
     add(
+        alloc,
         &mut entries,
         Event::Deliver { message: 0 },
         A,
@@ -147,6 +153,7 @@ fn fetched(alloc: Global) -> Result<Entries, Fail> {
     )?;
     let unsent = Event::Deliver { message: 9 };
     add(
+        alloc,
         &mut entries,
         unsent,
         A,

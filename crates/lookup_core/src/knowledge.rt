@@ -85,8 +85,10 @@ impl Knowledge {
         &self.table
     }
 
-    /// Learns an identifier, and answers whether a side or the table changed.
-    fn take_in(&mut self, id: Id) -> bool
+    /// Learns an identifier, and answers whether a side or the table changed. It takes no memory. It is a call of its own, so that
+    /// the identifier comes to it in registers, wherever it lay.
+    #[inline(never)]
+    pub fn take_in(&mut self, id: Id) -> bool
         ensures me { self.new.leafs.me ≡ self.old.leafs.me }
         ensures stands { (known : List Id) → StandsFor self.old known → StandsFor self.new (learn_of self.old.leafs.me known id) }
         ensures answer { result ≡ (is_taken self.old.leafs self.new.leafs id || is_new self.old.table id) }

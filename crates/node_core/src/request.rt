@@ -91,6 +91,7 @@ impl Request {
     }
 
     /// The request is passed on to this node, as this message.
+    #[inline(always)]
     pub(crate) fn passed_on(
         &self,
         alloc: Global,

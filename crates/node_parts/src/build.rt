@@ -1,4 +1,5 @@
-//! Outcomes that many rows share: what is sent and noted beside a change.
+//! Outcomes that many rows share: what is sent and noted beside a change. What most steps call is inlined, for the reason that
+//! `Sends::one` is.
 
 ghost use Rattle.std.specs.Prelude.{◌≡◌, IfOk, OnOk, [], ◌∷◌, ◌++◌};
 ghost use Rattle.ring_math.specs.Sides.{learn as learn_of, learn_all};
@@ -181,6 +182,7 @@ pub fn one_more(hops: u16) -> u16
 }
 
 /// The reply to a command, as a message.
+#[inline(always)]
 pub fn reply_in(what: Asked, number: u64, reply: Reply) -> Message
     ensures { plain result ≡ reply_message what number reply }
 {
@@ -205,6 +207,7 @@ impl Prepared {
     }
 
     /// One message is sent.
+    #[inline(always)]
     pub fn sending(
         alloc: Global,
         change: Change,
@@ -213,16 +216,15 @@ impl Prepared {
     ) -> Result<Prepared, OutOfMemory>
         ensures { (s t : State) → changed change s ≡ t → IfOk result (λ p. Plans s p (becomes t (sent receiver (plain message) ∷ []) [])) }
     {
-        let mut messages = Sends::new(alloc);
-        messages.push(Outgoing { receiver, message })?;
         Ok(Prepared {
-            messages,
+            messages: Sends::one(alloc, Outgoing { receiver, message })?,
             notes: Notes::new(alloc),
             change,
         })
     }
 
     /// A command of the node itself is closed, and these are sent.
+    #[inline(always)]
     pub fn closing(
         alloc: Global,
         change: Change,
@@ -259,13 +261,12 @@ impl Prepared {
             number,
             reply: noted,
         })?;
-        let mut messages = Sends::new(alloc);
-        messages.push(Outgoing {
+        let answer = Outgoing {
             receiver: origin,
             message: reply_in(what, number, reply),
-        })?;
+        };
         Ok(Prepared {
-            messages,
+            messages: Sends::one(alloc, answer)?,
             notes,
             change,
         })
@@ -307,6 +308,7 @@ impl Prepared {
 }
 
 /// The same message to each of these, behind the messages that are there.
+#[inline(always)]
 pub fn send_to_each(
     alloc: Global,
     messages: &mut Sends,

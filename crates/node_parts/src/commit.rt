@@ -146,7 +146,9 @@ impl Node {
     {
         match rest {
             Rest::Keep => {}
-            Rest::Learnt(id) => self.known.learn_all(&[id]),
+            Rest::Learnt(id) => {
+                let _changed = self.known.take_in(id);
+            }
             Rest::Answered { sender } => self.seat.hear(sender),
             Rest::Heard { sender, learnt } => {
                 self.seat.hear(sender);

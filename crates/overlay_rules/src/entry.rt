@@ -3,6 +3,7 @@
 ghost use Rattle.std.specs.Prelude.{◌≡◌, ◌<◌, ◌+◌, ◌++◌, ◌∷◌, [], All, IfOk, OnOk, OnErr, Some, length, map, slice_get};
 ghost use Rattle.wire_msg.specs.Words.{plain_envelope};
 ghost use Rattle.overlay_rules.specs.Record.{IsSaidBy, enveloped, sent_in};
+ghost use Rattle.overlay_rules.specs.Flat.{event_kept};
 ghost use Rattle.overlay_rules.specs.Seen.{entry_seen, event_seen};
 ghost use Rattle.overlay_rules.specs.Table.{notes_in};
 
@@ -183,17 +184,16 @@ impl Entries {
     /// After `OutOfMemory` there is none more.
     pub fn add(
         &mut self,
-        event: Event,
+        event: CompactEvent,
         stamp: u64,
         sender: Id,
         sends: Sends,
         notes: Notes,
     ) -> Result<(), OutOfMemory>
-        ensures ok { OnOk result (self.new ≡ self.old ++ record { event = event; messages = map (enveloped stamp sender) sends; notes = notes } ∷ []) }
+        ensures ok { OnOk result (self.new ≡ self.old ++ record { event = event_kept event; messages = map (enveloped stamp sender) sends; notes = notes } ∷ []) }
         ensures err { OnErr result (self.new ≡ self.old) }
     {
         event.said_law();
-        let event = CompactEvent::of(event, *self.lists.sent.allocator())?;
         let messages = sends.into_items();
         let mut notes = notes.into_items();
         self.lists.reserve(messages.len(), notes.len())?;
@@ -215,6 +215,7 @@ impl Entries {
         } = item;
         let mut messages = messages.into_items();
         let mut notes = notes.into_items();
+        let event = CompactEvent::of(event, *messages.allocator())?;
         self.append(event, &mut messages, &mut notes)
     }
 
@@ -222,17 +223,16 @@ impl Entries {
     /// who adds many entries needs no memory for the lists of each. After `OutOfMemory` there is none more.
     pub fn append(
         &mut self,
-        event: Event,
+        event: CompactEvent,
         messages: &mut Vec<Envelope>,
         notes: &mut Vec<Note>,
     ) -> Result<(), OutOfMemory>
-        ensures ok { OnOk result (self.new ≡ self.old ++ record { event = event; messages = map plain_envelope messages.old.items; notes = notes.old.items } ∷ []) }
+        ensures ok { OnOk result (self.new ≡ self.old ++ record { event = event_kept event; messages = map plain_envelope messages.old.items; notes = notes.old.items } ∷ []) }
         ensures err { OnErr result (self.new ≡ self.old) }
         ensures messages { OnOk result (messages.new.items ≡ []) }
         ensures notes { OnOk result (notes.new.items ≡ []) }
     {
         event.said_law();
-        let event = CompactEvent::of(event, *self.lists.sent.allocator())?;
         self.lists.reserve(messages.len(), notes.len())?;
         move_all(&mut self.lists.sent, messages);
         move_all(&mut self.lists.notes, notes);

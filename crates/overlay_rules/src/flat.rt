@@ -2,7 +2,7 @@
 
 ghost use Rattle.std.specs.Prelude.{◌≡◌, ◌<◌, ◌≤◌, ◌+◌, ◌++◌, ◌∷◌, [], Some, length, map, slice_get, vec_len, vec_capacity, slice_range, IfOk, OnOk};
 ghost use Rattle.wire_msg.specs.Words.{plain_envelope, plain_sent};
-ghost use Rattle.overlay_rules.specs.Record.{enveloped};
+ghost use Rattle.overlay_rules.specs.Record.{IsSaidBy, enveloped};
 ghost use Rattle.overlay_rules.specs.Flat.{CutsWell, HasRoom, SameLists, cut, event_kept, noted_start, sent_start};
 ghost use Rattle.overlay_rules.specs.Seen.{entry_seen, event_seen};
 
@@ -11,15 +11,17 @@ use ring_math::{Id, OutOfMemory, reserve_ahead};
 use std::alloc::Global;
 use wire_msg::{Envelope, Note, Outgoing};
 
-/// An event in little room. Most events deliver a message; the others are boxed, so that they do not cost each entry their size.
+/// An event in little room. Most events deliver a message; the others are boxed, so that they do not cost each entry their size,
+/// nor each call that passes one on.
 #[derive(Drop)]
-pub(crate) enum CompactEvent {
+pub enum CompactEvent {
     Deliver { message: u64 },
     Boxed(Box<Event>),
 }
 
 impl CompactEvent {
-    pub(crate) fn of(event: Event, alloc: Global) -> Result<CompactEvent, OutOfMemory>
+    /// The same event.
+    pub fn of(event: Event, alloc: Global) -> Result<CompactEvent, OutOfMemory>
         ensures { IfOk result (λ kept. event_kept kept ≡ event) }
     {
         match event {
@@ -28,13 +30,23 @@ impl CompactEvent {
         }
     }
 
+    /// The event, as a record shows it.
     #[inline(always)]
-    pub(crate) fn seen(&self) -> EventRef<'_>
+    pub fn seen(&self) -> EventRef<'_>
         ensures { event_seen result ≡ event_kept self.now }
     {
         match self {
             CompactEvent::Deliver { message } => EventRef::Deliver { message: *message },
             CompactEvent::Boxed(event) => event.seen(),
+        }
+    }
+
+    /// What the event's command says, it can say: a law, which does nothing.
+    pub fn said_law(&self)
+        ensures { IsSaidBy (event_kept self.now) }
+    {
+        if let CompactEvent::Boxed(event) = self {
+            event.said_law();
         }
     }
 }
@@ -136,12 +148,14 @@ fn between<T>(items: &[T], start: usize, end: usize) -> &[T]
 }
 
 /// Adds each message, in an envelope from this sender, with this stamp, to a list that has room for them. The messages are moved,
-/// and not copied.
-pub fn send_all(sent: &mut Vec<Envelope>, stamp: u64, sender: Id, messages: Vec<Outgoing>)
+/// and not copied. They are taken from the end of their list, which is turned round for that: so each is read where it lies, and
+/// goes by no other place.
+pub fn send_all(sent: &mut Vec<Envelope>, stamp: u64, sender: Id, mut messages: Vec<Outgoing>)
     requires { vec_len sent.old + vec_len messages ≤ vec_capacity sent.old }
     ensures items { map plain_envelope sent.new.items ≡ map plain_envelope sent.old.items ++ map (enveloped stamp sender) (map plain_sent messages.items) }
 {
-    for outgoing in messages {
+    messages.reverse();
+    while let Some(outgoing) = messages.pop() {
         sent.push_reserved(Envelope {
             sender,
             receiver: outgoing.receiver,

@@ -9,7 +9,7 @@ mod laws;
 mod request;
 
 pub use entry::{Entries, Entry, EntryRef, Event, EventRef, Record};
-pub use flat::send_all;
+pub use flat::{CompactEvent, send_all};
 pub use gate::{Gate, Verdict};
 pub use laws::command_law;
 pub use request::{Asked, Pending, Way};

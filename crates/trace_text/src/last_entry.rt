@@ -4,7 +4,7 @@ ghost use Rattle.std.specs.Prelude.{◌≡◌, ◌++◌, ◌∷◌, [], OnOk};
 ghost use Rattle.trace_text.specs.Fronts.{begun, may_send, with_note, with_sent};
 ghost use Rattle.wire_msg.specs.Words.{plain_envelope};
 
-use overlay_rules::{Entries, Event};
+use overlay_rules::{CompactEvent, Entries, Event};
 use ring_math::OutOfMemory;
 use std::alloc::Global;
 use std::marker::Model;
@@ -71,6 +71,7 @@ impl LastEntry {
         ensures begun { OnOk result (self.new ≡ begun event) }
     {
         let before = mem::replace(&mut self.event, event);
+        let before = CompactEvent::of(before, *self.messages.allocator())?;
         whole.append(before, &mut self.messages, &mut self.notes)
     }
 
@@ -83,6 +84,7 @@ impl LastEntry {
             mut messages,
             mut notes,
         } = self;
+        let event = CompactEvent::of(event, *messages.allocator())?;
         whole.append(event, &mut messages, &mut notes)
     }
 }

@@ -127,6 +127,10 @@ impl Ahead {
             self.seen ^= entry.map_or(0, glimpse_of_entry);
         }
         let load = self.take_in(&entries, starts);
+        // Before they are searched, which has to choose by each.
+        for sight in self.sights.iter() {
+            self.seen ^= starts.glimpse(sight.near);
+        }
         for entry in entries.iter() {
             self.seen ^= entry.map_or(0, glimpse_of_firsts);
         }
@@ -217,19 +221,17 @@ fn glimpse_of_lists(entry: &CellEntry) -> u64 {
     }
 }
 
-/// What is seen first of the list in a message, if it has one.
+/// What is seen first of the list in a message of those kinds that mostly have one. To tell more kinds apart takes longer than it
+/// saves.
 fn glimpse_of_list(message: &Message) -> u64 {
     match message {
-        Message::Insert { bytes, .. }
-        | Message::Replicate { bytes, .. }
-        | Message::Handover { bytes, .. } => first_byte(bytes),
+        Message::Insert { bytes, .. } | Message::Replicate { bytes, .. } => first_byte(bytes),
         Message::JoinReply { members, .. } | Message::ProbeReply { members, .. } => {
             first_id(members)
         }
-        Message::LookupReply { reply, .. }
-        | Message::InsertReply { reply, .. }
-        | Message::FetchReply { reply, .. }
-        | Message::ReclaimReply { reply, .. } => glimpse_of_reply(reply),
+        Message::InsertReply { reply, .. } | Message::FetchReply { reply, .. } => {
+            glimpse_of_reply(reply)
+        }
         _ => 0,
     }
 }

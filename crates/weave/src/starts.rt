@@ -69,6 +69,11 @@ impl Starts {
         }
     }
 
+    /// What is seen first of the marks of these.
+    pub(crate) fn glimpse(&self, near: Stretch) -> u64 {
+        self.marks.get(near.from).map_or(0, |mark| u64::from(*mark))
+    }
+
     /// The first place of these with the sender's mark.
     pub(crate) fn first_of(&self, near: Stretch, sender: Id) -> Option<usize> {
         let mark = mark_of(sender);

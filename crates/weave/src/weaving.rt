@@ -4,6 +4,7 @@ ghost use Rattle.std.specs.Prelude.{◌≡◌, [], true, IfOk, IfErr, OnOk, All,
 ghost use Rattle.ring_math.specs.Names.{Id};
 ghost use Rattle.std.specs.List.{AllZip};
 ghost use Rattle.wire_msg.specs.Words.{plain_envelope};
+ghost use Rattle.overlay_rules.specs.Flat.{event_kept};
 ghost use Rattle.overlay_rules.specs.Record.{Legal, all_differ, sent_in};
 ghost use Rattle.weave_laws.specs.AtNode.{IsPartOf};
 ghost use Rattle.weave_laws.specs.Cells.{Comes, nodes_of};
@@ -26,7 +27,7 @@ use crate::starts::Starts;
 use crate::stop::{Stop, fault_at};
 use crate::strand::{Strand, lent_by};
 use node_cell::{CellInput, NodeCell};
-use overlay_rules::{Entries, Event, Record};
+use overlay_rules::{CompactEvent, Entries, Event, Record};
 use ring_math::OutOfMemory;
 use std::alloc::Global;
 use wire_msg::{Envelope, Note};
@@ -168,39 +169,47 @@ impl Weaving {
     }
 
     /// The event that what an entry took in becomes, as the next of the record.
-    fn event_of<S: Strand>(&self, alloc: Global, act: &Act, strands: &[S]) -> Result<Event, Stop>
+    fn event_of<S: Strand>(
+        &self,
+        alloc: Global,
+        act: &Act,
+        strands: &[S],
+    ) -> Result<CompactEvent, Stop>
         requires sorted { AreByStamp (sent_in self.now.entries) }
         requires within { IsWithin (map S.history strands.now) act.now }
-        ensures ok { let own = act_at (map S.history strands.now) act.now in IfOk result (IsEventOf (sent_in self.now.entries) own.node own.entry.input) }
+        ensures ok { let own = act_at (map S.history strands.now) act.now in
+            IfOk result (λ event. IsEventOf (sent_in self.now.entries) own.node own.entry.input (event_kept event)) }
         ensures err { IfErr result (IsHaltAt (sent_in self.now.entries) (placed (map S.history strands.now) act.now)) }
     {
+        let node = act.node(strands);
         // What is gone would be as noise; none of these is.
         let Some(entry) = act.entry(strands) else {
-            return Ok(Event::Noise {
-                node: act.node(strands),
-            });
+            return compact(alloc, Event::Noise { node });
         };
         match &entry.input {
-            CellInput::Command { number, command } => Ok(Event::Command {
-                node: act.node(strands),
-                number: *number,
-                command: command.copy(alloc)?,
-            }),
+            CellInput::Command { number, command } => {
+                let command = command.copy(alloc)?;
+                let event = Event::Command {
+                    node,
+                    number: *number,
+                    command,
+                };
+                compact(alloc, event)
+            }
             CellInput::Comes(envelope) => self.delivery_of(envelope),
-            CellInput::Noise => Ok(Event::Noise {
-                node: act.node(strands),
-            }),
+            CellInput::Noise => compact(alloc, Event::Noise { node }),
         }
     }
 
     /// The delivery of a message that came.
-    fn delivery_of(&self, envelope: &Envelope) -> Result<Event, Stop>
+    fn delivery_of(&self, envelope: &Envelope) -> Result<CompactEvent, Stop>
         requires { AreByStamp (sent_in self.now.entries) }
-        ensures ok { (x : Id) → IfOk result (IsEventOf (sent_in self.now.entries) x (Comes (plain_envelope envelope.now))) }
+        ensures ok { (x : Id) →
+            IfOk result (λ event. IsEventOf (sent_in self.now.entries) x (Comes (plain_envelope envelope.now)) (event_kept event)) }
         ensures err { IfErr result (λ stop. stop ≡ Stop.Stray × (Contains (sent_in self.now.entries) (plain_envelope envelope.now) → ⊥)) }
     {
         match place_among(self.entries.sent(), self.guess_of(envelope), envelope) {
-            Some(message) => Ok(Event::Deliver {
+            Some(message) => Ok(CompactEvent::Deliver {
                 message: message as u64,
             }),
             None => Err(Stop::Stray),
@@ -214,6 +223,15 @@ impl Weaving {
             None => self.starts.guess(envelope.stamp, envelope.sender),
         }
     }
+}
+
+/// The same event in little room. Few are made by it, since most events deliver a message.
+#[inline(never)]
+fn compact(alloc: Global, event: Event) -> Result<CompactEvent, Stop>
+    ensures ok { IfOk result (λ kept. event_kept kept ≡ event) }
+    ensures err { IfErr result (λ stop. stop ≡ Stop.OutOfMemory) }
+{
+    Ok(CompactEvent::of(event, alloc)?)
 }
 
 /// What an entry of one of the histories sent and noted comes into these lists, which are empty.

@@ -1,6 +1,6 @@
 //! Lists of messages and notes, in the order written.
 
-ghost use Rattle.std.specs.Prelude.{◌≡◌, ◌++◌, ◌∷◌, [], map, OnOk, OnErr};
+ghost use Rattle.std.specs.Prelude.{◌≡◌, ◌++◌, ◌∷◌, [], map, IfOk, OnOk, OnErr};
 ghost use Rattle.wire_msg.specs.Words.{plain_sent, plain_envelope};
 
 use crate::message::{Envelope, Outgoing};
@@ -33,6 +33,17 @@ impl Sends {
         }
     }
 
+    /// One message alone, in room for it. It is inlined, so that the message is made where it stays: a processor waits for what was
+    /// just written in small parts, if it is to be read in larger ones.
+    #[inline(always)]
+    pub fn one(alloc: Global, item: Outgoing) -> Result<Sends, OutOfMemory>
+        ensures { IfOk result (λ sends. sends ≡ plain_sent item ∷ []) }
+    {
+        let mut items = Vec::with_capacity(alloc, 1)?;
+        items.push_reserved(item);
+        Ok(Sends { items })
+    }
+
     pub fn as_slice(&self) -> &[Outgoing]
         ensures { map plain_sent result.now ≡ self.now }
     {
@@ -47,6 +58,8 @@ impl Sends {
         Ok(())
     }
 
+    /// One message more. It is inlined for the same reason.
+    #[inline(always)]
     pub fn push(&mut self, item: Outgoing) -> Result<(), OutOfMemory>
         ensures ok { OnOk result (self.new ≡ self.old ++ plain_sent item ∷ []) }
         ensures err { OnErr result (self.new ≡ self.old) }
@@ -97,6 +110,8 @@ impl Notes {
         &self.items
     }
 
+    /// One note more. It is inlined, as messages are.
+    #[inline(always)]
     pub fn push(&mut self, item: Note) -> Result<(), OutOfMemory>
         ensures ok { OnOk result (self.new ≡ self.old ++ item ∷ []) }
         ensures err { OnErr result (self.new ≡ self.old) }

@@ -3,9 +3,10 @@
 ghost use Rattle.std.specs.Prelude.{◌≡◌, ◌<◌, ◌≤◌, ◌+◌, ◌++◌, ◌∷◌, [], ℕ, List, OnOk, length, replicate, slice_index_or};
 ghost use Rattle.std.specs.Prelude.{true, false, vec_capacity, vec_len};
 ghost use Rattle.overlay_rules.specs.declared.entry.Entry.{Entry as PlainEntry};
+ghost use Rattle.overlay_rules.specs.Flat.{event_kept};
 ghost use Rattle.world_model.specs.Index.{HasRoom, IsBelow, ListsMessages, delivered_by, marked, oldest_of};
 
-use overlay_rules::Event;
+use overlay_rules::{CompactEvent, EventRef};
 use ring_math::{OutOfMemory, reserve_ahead};
 use std::alloc::Global;
 
@@ -70,12 +71,12 @@ impl Messages {
 }
 
 /// The message that an event delivers.
-pub(crate) fn delivered_message(event: &Event) -> Option<u64>
-    ensures { result ≡ delivered_by event.now }
+pub(crate) fn delivered_message(event: &CompactEvent) -> Option<u64>
+    ensures { result ≡ delivered_by (event_kept event.now) }
 {
-    match event {
-        Event::Deliver { message } => Some(*message),
-        Event::Command { .. } | Event::Noise { .. } => None,
+    match event.seen() {
+        EventRef::Deliver { message } => Some(message),
+        EventRef::Command { .. } | EventRef::Noise { .. } => None,
     }
 }
 

@@ -3,6 +3,7 @@
 ghost use Rattle.std.specs.Prelude.{◌≡◌, ◌<◌, ℕ, Some, [], Contains, IfOk, OnOk, OnErr, MatchBool, nat_lt, length};
 ghost use Rattle.overlay_rules.specs.declared.entry.Event.TheVariants as event;
 ghost use Rattle.overlay_rules.specs.Record.{IsFresh, IsRecord, IsSetting, Visit, sent_in, visit};
+ghost use Rattle.overlay_rules.specs.Flat.{event_kept};
 ghost use Rattle.overlay_rules.specs.Played.{oldest_undelivered};
 ghost use Rattle.step_facts.specs.Receivers.{ReceiversAre, ViaIs};
 ghost use Rattle.node_parts.specs.Views.{hop_of};
@@ -18,7 +19,7 @@ use crate::cells::Cells;
 use crate::index::{Messages, delivered_message};
 use coverage::Hop;
 use node_core::{Input, Prepared};
-use overlay_rules::{Entries, Event, Record};
+use overlay_rules::{CompactEvent, Entries, Event, EventRef, Record};
 use ring_math::{Id, OutOfMemory};
 use std::alloc::Global;
 use std::marker::Model;
@@ -87,11 +88,13 @@ impl World {
         ensures err { OnErr result (self.new ≡ self.old) }
     {
         let place = self.cells.place(node);
+        let command = command.copy(alloc)?;
         let event = Event::Command {
             node,
             number,
-            command: command.copy(alloc)?,
+            command,
         };
+        let event = CompactEvent::of(event, alloc)?;
         self.happen(alloc, place, event)
     }
 
@@ -109,7 +112,7 @@ impl World {
             return Ok(false);
         }
         let place = self.receiver(message);
-        self.happen(alloc, place, Event::Deliver { message })?;
+        self.happen(alloc, place, CompactEvent::Deliver { message })?;
         Ok(true)
     }
 
@@ -120,7 +123,8 @@ impl World {
         ensures err { OnErr result (self.new ≡ self.old) }
     {
         let place = self.cells.place(node);
-        self.happen(alloc, place, Event::Noise { node })
+        let event = CompactEvent::of(Event::Noise { node }, alloc)?;
+        self.happen(alloc, place, event)
     }
 
     /// How many messages were sent.
@@ -189,15 +193,26 @@ impl World {
     }
 
     /// An event comes to the node at a place: its step is made, and its entry is added.
-    fn happen(&mut self, alloc: Global, place: usize, event: Event) -> Result<(), OutOfMemory>
-        requires comes { ComesTo self.old event place }
-        requires fresh { IsFresh self.old.entries event }
-        requires via { ViaIs (setting_of self.old) event }
-        ensures ok { OnOk result (self.new ≡ with_event self.old event) }
+    fn happen(
+        &mut self,
+        alloc: Global,
+        place: usize,
+        event: CompactEvent,
+    ) -> Result<(), OutOfMemory>
+        requires comes { ComesTo self.old (event_kept event) place }
+        requires fresh { IsFresh self.old.entries (event_kept event) }
+        requires via { ViaIs (setting_of self.old) (event_kept event) }
+        ensures ok { OnOk result (self.new ≡ with_event self.old (event_kept event)) }
         ensures err { OnErr result (self.new ≡ self.old) }
     {
         event.said_law();
         let delivered = delivered_message(&event);
+        // Named, since the prover has to see what type a command is.
+        if let EventRef::Command {
+            command: _command,
+            ..
+        } = event.seen()
+        {}
         let input = input_of(&event, &self.entries);
         let Prepared {
             messages,
@@ -216,26 +231,23 @@ impl World {
 }
 
 /// What comes to the node of an event.
-fn input_of<'a>(event: &'a Event, entries: &'a Entries) -> Input<'a>
-    requires { IsBelow (length (sent_in entries.now)) (delivered_by event.now) }
-    ensures { (at : Visit) → visit (sent_in entries.now) event.now ≡ Some at → plain_input result ≡ at.input }
+fn input_of<'a>(event: &'a CompactEvent, entries: &'a Entries) -> Input<'a>
+    requires { IsBelow (length (sent_in entries.now)) (delivered_by (event_kept event.now)) }
+    ensures { (at : Visit) → visit (sent_in entries.now) (event_kept event.now) ≡ Some at → plain_input result ≡ at.input }
 {
-    match event {
-        Event::Command {
+    match event.seen() {
+        EventRef::Command {
             number,
             command,
             ..
-        } => Input::Command {
-            number: *number,
-            command,
-        },
-        Event::Deliver { message } => {
-            let envelope = &entries.sent()[*message as usize];
+        } => Input::Command { number, command },
+        EventRef::Deliver { message } => {
+            let envelope = &entries.sent()[message as usize];
             Input::Message {
                 sender: envelope.sender,
                 message: &envelope.message,
             }
         }
-        Event::Noise { .. } => Input::Noise,
+        EventRef::Noise { .. } => Input::Noise,
     }
 }

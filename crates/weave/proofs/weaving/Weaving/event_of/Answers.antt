@@ -1,6 +1,7 @@
 use Rattle.std.proofs.Common.{◌≡◌, ◌∙◌, Result, Ok, Err, IfOk, IfErr, List, Contains, map, ap, sym, subst}
 use Rattle.wire_msg.specs.Words.{Envelope, plain_envelope}
-use Rattle.overlay_rules.specs.declared.entry.Event.{Event}
+use Rattle.overlay_rules.specs.declared.flat.CompactEvent.{CompactEvent}
+use Rattle.overlay_rules.specs.Flat.{event_kept}
 use Rattle.overlay_rules.specs.Record.{sent_in}
 use Rattle.weave_laws.specs.Cells.{CellEntry, CellInput, Comes, History}
 use Rattle.weave_laws.specs.Woven.{IsEventOf}
@@ -13,7 +14,7 @@ use Rattle.weave.specs.declared.stop.Stop.TheVariants.{Stray}
 use Rattle.weave.proofs.weaving.Weaving.event_of.Goals as goal
 
 -- an entry that took in what was not sent
-halts : (sent : List Envelope) (p : Placed) (v : Envelope) (r : Result Event Stop) → p.act.entry.input ≡ Comes v →
+halts : (sent : List Envelope) (p : Placed) (v : Envelope) (r : Result CompactEvent Stop) → p.act.entry.input ≡ Comes v →
     IfErr r (λ s. (s ≡ Stray) × (Contains sent v → ⊥)) → IfErr r (IsHaltAt sent p)
 halts sent p v (Ok e) takes h = h
 halts sent p v (Err s) takes h =
@@ -25,8 +26,9 @@ returns-in-Comes-clause-ok g c =
     let own = act_at hs c.args.act.now in
     let takes : own.entry.input ≡ Comes (plain_envelope c.in-Comes.envelope) =
     sym (ap (λ (e : CellEntry). e.input) c.entry.ensures) ∙ ap (λ r. (entry_seen r).input) c.in-Some.is ∙ ap plain_input_of c.in-Comes.is in
-    subst (λ (i : CellInput). IfOk c.delivery_of.result (IsEventOf (sent_in c.args.self.now.entries) own.node i)) (sym takes)
-    (c.delivery_of.ensures.ok own.node)
+    subst (λ (i : CellInput).
+    IfOk c.delivery_of.result (λ (e : CompactEvent). IsEventOf (sent_in c.args.self.now.entries) own.node i (event_kept e)))
+    (sym takes) (c.delivery_of.ensures.ok own.node)
 
 pub returns-in-Comes-clause-err : goal.returns-in-Comes-clause-err
 returns-in-Comes-clause-err g c =

@@ -1,6 +1,7 @@
 use Rattle.std.proofs.Common.{◌≡◌, ◌∙◌, ◌++◌, ◌∷◌, [], ℕ, List, Option, length, map, slice_index, vec_len, refl, sym, ap, subst}
 use Rattle.std.proofs.lemmas.List.{length-map}
 use Rattle.wire_msg.specs.Words.{plain_sent}
+use Rattle.overlay_rules.specs.Flat.{event_kept}
 use Rattle.overlay_rules.specs.State.{State}
 use Rattle.overlay_rules.specs.Step.{step}
 use Rattle.overlay_rules.specs.Record.{IsFresh, enveloped, state_at}
@@ -24,8 +25,9 @@ use Rattle.world_model.proofs.world.World.happen.Goals.{After-commit}
 
 pub input_of-input-requires : goal.input_of-input-requires
 input_of-input-requires c =
-    comes-below (record { nodes = ids_of c.self.inside.cells; founder = c.self.inside.founder; entries = c.self.inside.entries }) c.args.event c.args.place
-    (subst (λ (q : Recorded). ComesTo q c.args.event c.args.place) (sym c.self.view_is) c.requires.comes)
+    comes-below (record { nodes = ids_of c.self.inside.cells; founder = c.self.inside.founder; entries = c.self.inside.entries })
+    (event_kept c.args.event) c.args.place
+    (subst (λ (q : Recorded). ComesTo q (event_kept c.args.event) c.args.place) (sym c.self.view_is) c.requires.comes)
 
 pub invariant_of-self-in_err-reserve : goal.invariant_of-self-in_err-reserve
 invariant_of-self-in_err-reserve c =
@@ -42,14 +44,14 @@ invariant_of-self-in_err-add c =
 abbrev past : (c : After-commit) → Recorded
 past c = record { nodes = ids_of c.self.inside.cells; founder = c.self.inside.founder; entries = c.self.inside.entries }
 
-comes : (c : After-commit) → ComesTo (past c) c.args.event c.args.place
-comes c = subst (λ (q : Recorded). ComesTo q c.args.event c.args.place) (sym c.self.view_is) c.requires.comes
+comes : (c : After-commit) → ComesTo (past c) (event_kept c.args.event) c.args.place
+comes c = subst (λ (q : Recorded). ComesTo q (event_kept c.args.event) c.args.place) (sym c.self.view_is) c.requires.comes
 
-fresh : (c : After-commit) → IsFresh (past c).entries c.args.event
-fresh c = subst (λ (q : Recorded). IsFresh q.entries c.args.event) (sym c.self.view_is) c.requires.fresh
+fresh : (c : After-commit) → IsFresh (past c).entries (event_kept c.args.event)
+fresh c = subst (λ (q : Recorded). IsFresh q.entries (event_kept c.args.event)) (sym c.self.view_is) c.requires.fresh
 
-via : (c : After-commit) → ViaIs (setting_of (past c)) c.args.event
-via c = subst (λ (q : Recorded). ViaIs (setting_of q) c.args.event) (sym c.self.view_is) c.requires.via
+via : (c : After-commit) → ViaIs (setting_of (past c)) (event_kept c.args.event)
+via c = subst (λ (q : Recorded). ViaIs (setting_of q) (event_kept c.args.event)) (sym c.self.view_is) c.requires.via
 
 abbrev node : (c : After-commit) → ℕ
 node c = slice_index (past c).nodes c.args.place
@@ -66,28 +68,28 @@ plans c = c.in_ok-messages.ensures.plans (world_of (past c)).states c.self.invar
 abbrev entry : (c : After-commit) → Entry
 entry c =
     record {
-      event = c.args.event;
+      event = event_kept c.args.event;
       messages = map (enveloped c.next_stamp-stamp.result c.id.result) c.in_ok-messages.field-0.messages;
       notes = c.in_ok-messages.field-0.notes;
     }
 
-entry_is : (c : After-commit) → entry c ≡ entry_of (world_of (past c)) c.args.event
+entry_is : (c : After-commit) → entry c ≡ entry_of (world_of (past c)) (event_kept c.args.event)
 entry_is c =
-    entry-made (past c) c.args.event c.args.place (comes c) c.in_ok-messages.field-0 (plain_input c.input_of-input.result) c.next_stamp-stamp.result c.id.result
-    (same_input c) (plans c) c.next_stamp-stamp.ensures
+    entry-made (past c) (event_kept c.args.event) c.args.place (comes c) c.in_ok-messages.field-0 (plain_input c.input_of-input.result)
+    c.next_stamp-stamp.result c.id.result (same_input c) (plans c) c.next_stamp-stamp.ensures
     (c.id.ensures ∙ ap (λ (ids : List ℕ). slice_index ids c.args.place) c.prepare.ensures.ids)
 
 added : (c : After-commit) → c.add.new.self ≡ (past c).entries ++ entry c ∷ []
 added c = c.in_ok-add.ensures.ok
 
-grown : (c : After-commit) → c.add.new.self ≡ (with_event (past c) c.args.event).entries
+grown : (c : After-commit) → c.add.new.self ≡ (with_event (past c) (event_kept c.args.event)).entries
 grown c = added c ∙ ap (λ (e : Entry). (past c).entries ++ e ∷ []) (entry_is c)
 
 nodes_stay : (c : After-commit) → ids_of c.commit.new.self ≡ (past c).nodes
 nodes_stay c = c.commit.ensures.ids ∙ c.prepare.ensures.ids
 
 same : (c : After-commit) → (record { nodes = ids_of c.commit.new.self; founder = c.self.inside.founder; entries = c.add.new.self })
-    ≡ with_event (past c) c.args.event
+    ≡ with_event (past c) (event_kept c.args.event)
 same c =
     ap (λ (ids : List ℕ). record { nodes = ids; founder = c.self.inside.founder; entries = c.add.new.self }) (nodes_stay c)
     ∙ ap (λ (es : List Entry). record { nodes = (past c).nodes; founder = c.self.inside.founder; entries = es }) (grown c)
@@ -104,8 +106,8 @@ pub add-requires-2-clause-below : goal.add-requires-2-clause-below
 add-requires-2-clause-below c =
     let b : After-commit = (goal.at.add-requires-2-clause-below c).After-commit in
     subst (λ (o : Option ℕ). IsBelow (vec_len c.reserve.new.self.delivered) o) (sym c.delivered_message-delivered.ensures)
-    (subst (λ (k : ℕ). IsBelow k (delivered_by c.args.event)) (sym (c.reserve.new.self.delivered.ok.0 ∙ (listed b).marks.count))
-    (comes-below (past b) c.args.event c.args.place (comes b)))
+    (subst (λ (k : ℕ). IsBelow k (delivered_by (event_kept c.args.event))) (sym (c.reserve.new.self.delivered.ok.0 ∙ (listed b).marks.count))
+    (comes-below (past b) (event_kept c.args.event) c.args.place (comes b)))
 
 -- ---- the world after it
 
@@ -131,10 +133,10 @@ invariant_of-self-2 c =
     let lists : ListsMessages c.add-2.new.self ((past b).entries ++ entry b ∷ []) =
     c.add-2.ensures (past b).entries (entry b) (listed b) c.delivered_message-delivered.ensures count in
     subst (λ (q : Recorded). IsWorld c.commit.new.self c.add-2.new.self q) (sym (same b))
-    (IsWorld-with_event c.self.inside.cells c.commit.new.self c.self.inside.messages c.add-2.new.self (past b) c.args.event c.args.place c.self.invariant
-    (comes b) (fresh b) c.said_law.ensures (via b) (stands b)
+    (IsWorld-with_event c.self.inside.cells c.commit.new.self c.self.inside.messages c.add-2.new.self (past b) (event_kept c.args.event)
+    c.args.place c.self.invariant (comes b) (fresh b) c.said_law.ensures (via b) (stands b)
     (subst (λ (e : Entry). ListsMessages c.add-2.new.self ((past b).entries ++ e ∷ [])) (entry_is b) lists))
 
 pub returns-clause-ok : goal.returns-clause-ok
 returns-clause-ok c =
-    same (goal.at.returns-clause-ok c).After-commit ∙ ap (λ (q : Recorded). with_event q c.args.event) c.self.view_is
+    same (goal.at.returns-clause-ok c).After-commit ∙ ap (λ (q : Recorded). with_event q (event_kept c.args.event)) c.self.view_is
