@@ -3,6 +3,7 @@
 #![tactic(auto)]
 
 ghost use Rattle.std.specs.Prelude.{◌≡◌, ◌≤◌, ◌&&◌, ◌||◌, ◌++◌, not, false, [], IsTrue, List, Contains, MatchOption, length, slice_get};
+ghost use Rattle.std.specs.Bool.{OnFalse};
 ghost use Rattle.ring_math.specs.Names.{Id};
 ghost use Rattle.ring_math.specs.Members.{IsClosest};
 ghost use Rattle.ring_math.specs.Sides.{learn as learn_of};
@@ -108,11 +109,12 @@ impl LeafSet {
     }
 
     /// Takes an identifier in on each side where it is among the nearest. It answers whether the identifier was
-    /// on neither side and now is on one. The node itself is never learnt.
+    /// on neither side and now is on one; else nothing has changed. The node itself is never learnt.
     pub fn learn(&mut self, id: Id) -> bool
         ensures me { self.new.me ≡ self.old.me }
         ensures stands { (known : List Id) → StandsFor self.old known → StandsFor self.new (learn_of self.old.me known id) }
         ensures answer { result ≡ not (holds self.old id) && holds self.new id }
+        ensures same { OnFalse result (self.new ≡ self.old) }
     {
         if !self.lacks(id) {
             return false;

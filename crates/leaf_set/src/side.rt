@@ -2,6 +2,7 @@
 
 ghost use Rattle.std.specs.Prelude.{◌≡◌, ◌<◌, ◌≤◌, ◌+◌, ◌-◌, ◌^◌, ◌++◌, All, ◌∷◌, not, filter, [], ℕ, List, length, take, nat_le, nat_lt, false, slice_get};
 ghost use Rattle.std.specs.Prelude.{MatchOption, Contains};
+ghost use Rattle.std.specs.Bool.{OnFalse};
 ghost use Rattle.std.specs.List.{position_or_len};
 ghost use Rattle.ring_math.specs.Direction.{far, reaches as reaches_of};
 ghost use Rattle.ring_math.specs.Members.{IsClosest};
@@ -239,11 +240,12 @@ impl Side {
     }
 
     /// Puts an identifier in its place, behind those as far as it, where it is among the first
-    /// [`LEAVES_PER_SIDE`]. It answers whether it is.
+    /// [`LEAVES_PER_SIDE`]. It answers whether it is; if not, nothing has changed.
     pub(crate) fn place(&mut self, me: Id, direction: Direction, id: Id) -> bool
         requires { Rises (far me direction) self.old }
         ensures placed { self.new ≡ take LEAVES_PER_SIDE (placed (far me direction) id self.old) }
         ensures answer { is_in self.old id ≡ false → result ≡ is_in self.new id }
+        ensures same { OnFalse result (self.new ≡ self.old) }
     {
         // Who is new belongs on one side only in most rings.
         if !self.reaches(me, direction, id) {

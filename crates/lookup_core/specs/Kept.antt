@@ -1,10 +1,10 @@
 -- What a node's knowledge is seen as, and the lists that it stands for.
-use Rattle.std.specs.Prelude.{◌≡◌, ◌<◌, ◌^◌, if◌then◌else◌, Option, Some, None, Bool, not, ◌&&◌, List, Contains}
+use Rattle.std.specs.Prelude.{◌≡◌, ◌<◌, ◌^◌, if◌then◌else◌, Option, Some, None, Bool, not, ◌&&◌, List, ◌∷◌, Contains}
 use Rattle.std.specs.List.{list_any}
 use Rattle.ring_math.specs.Names.{Id, Key}
 use Rattle.ring_math.specs.Ring.{is_nearer}
 use Rattle.ring_math.specs.Members.{InRing}
-use Rattle.leaf_set.specs.Leaves.{Leaves, holds, StandsFor as LeafSetStandsFor}
+use Rattle.leaf_set.specs.Leaves.{Leaves, holds, in_order, StandsFor as LeafSetStandsFor}
 use Rattle.leaf_set.specs.Range.{lacks}
 use Rattle.route_table.specs.Entries.{Table, is_held, is_new, StandsFor as TableStandsFor}
 use Rattle.lookup_core.specs.declared.knowledge.News.{News}
@@ -19,6 +19,10 @@ pub record StandsFor (k : Kept) (known : List Id) : Type 0 where
   pub me : k.table.me ≡ k.leafs.me
   pub leafs : LeafSetStandsFor k.leafs known
   pub table : TableStandsFor k.table known
+
+-- the node, and then its leaves in leaf order
+abbrev pub members_in : Leaves → List Id
+members_in s = s.me ∷ in_order s
 
 -- y was on neither side and now is on one
 abbrev pub is_taken : Leaves → Leaves → Id → Bool

@@ -1,15 +1,16 @@
 //! What a node knows of others: its leaf set and its prefix table.
 
-ghost use Rattle.std.specs.Prelude.{◌≡◌, ◌≢◌, List, [], ◌∷◌, ◌||◌, IsOk, IfOk};
+ghost use Rattle.std.specs.Prelude.{◌≡◌, ◌≢◌, List, [], ◌∷◌, ◌||◌, None, IsOk, IfOk};
+ghost use Rattle.std.specs.Bool.{OnTrue, OnFalse};
 ghost use Rattle.ring_math.specs.Names.{Id};
 ghost use Rattle.ring_math.specs.Sides.{learn as learn_of, learn_all as learn_all_of};
 ghost use Rattle.leaf_set.specs.Leaves.{StandsFor as LeafSetStandsFor};
 ghost use Rattle.route_table.specs.Entries.{is_new, StandsFor as TableStandsFor};
 ghost use Rattle.lookup_core.specs.declared.knowledge.News.TheVariants as News;
-ghost use Rattle.lookup_core.specs.Kept.{StandsFor, is_taken, news_of};
+ghost use Rattle.lookup_core.specs.Kept.{StandsFor, is_taken, members_in, news_of};
 
 use leaf_set::LeafSet;
-use ring_math::{Id, OutOfMemory};
+use ring_math::{Id, Ids, IdsBuilder, OutOfMemory};
 use route_table::{RouteTable, Standing};
 use std::alloc::Global;
 use std::marker::Model;
@@ -30,18 +31,23 @@ pub enum News {
 pub struct Knowledge {
     leafs: LeafSet,
     table: RouteTable,
+    /// The node and its leaves, where they were listed and no leaf has changed since.
+    listed: Option<Ids>,
 }
 
 impl Model for Knowledge {
-    ghost use Rattle.lookup_core.specs.Kept.{Kept};
+    ghost use Rattle.std.specs.Prelude.{◌≡◌, IfSome};
+    ghost use Rattle.lookup_core.specs.Kept.{Kept, members_in};
 
     ghost Value = { Kept };
 
     ghost view = { λ a. record { leafs = a.leafs; table = a.table } };
+
+    ghost invariant = { λ a. IfSome a.listed (λ ids. ids ≡ members_in a.leafs) };
 }
 
 impl Knowledge {
-    /// The knowledge of a node that knows nobody. It takes all the memory that it ever has.
+    /// The knowledge of a node that knows nobody. It takes all the memory that its leaf set and its table ever have.
     pub fn new(alloc: Global, me: Id) -> Result<Knowledge, OutOfMemory>
         ensures me { IfOk result (λ knowledge. knowledge.leafs.me ≡ me) }
         ensures stands { IfOk result (λ knowledge. StandsFor knowledge []) }
@@ -50,6 +56,7 @@ impl Knowledge {
         Ok(Knowledge {
             leafs: LeafSet::new(me),
             table,
+            listed: None,
         })
     }
 
@@ -61,6 +68,7 @@ impl Knowledge {
         Ok(Knowledge {
             leafs: self.leafs.copy(),
             table,
+            listed: None,
         })
     }
 
@@ -85,6 +93,26 @@ impl Knowledge {
         &self.table
     }
 
+    /// The node and then its leaves in leaf order.
+    pub fn members(&self, alloc: Global) -> Result<Ids, OutOfMemory>
+        ensures { IfOk result (λ ids. ids ≡ members_in self.now.leafs) }
+    {
+        match &self.listed {
+            Some(ids) => ids.copy(alloc),
+            None => members_of(alloc, &self.leafs),
+        }
+    }
+
+    /// Lists these, unless they are. Who asks for them before a leaf changes shares that list.
+    pub fn list_members(&mut self, alloc: Global) -> Result<(), OutOfMemory>
+        ensures { self.new ≡ self.old }
+    {
+        if self.listed.is_none() {
+            self.listed = Some(members_of(alloc, &self.leafs)?);
+        }
+        Ok(())
+    }
+
     /// Learns an identifier, and answers whether a side or the table changed. It takes no memory. It is a call of its own, so that
     /// the identifier comes to it in registers, wherever it lay.
     #[inline(never)]
@@ -99,6 +127,7 @@ impl Knowledge {
         }
         let in_table = self.table.learn(id);
         let on_side = self.leafs.learn(id);
+        outdate(&mut self.listed, on_side);
         on_side || in_table
     }
 
@@ -159,4 +188,24 @@ impl Knowledge {
             let _changed = self.take_in(*id);
         }
     }
+}
+
+/// A list of the leaves is of no use any more, if they have changed.
+fn outdate(listed: &mut Option<Ids>, have_changed: bool)
+    ensures then { OnTrue have_changed (listed.new ≡ None) }
+    ensures same { OnFalse have_changed (listed.new ≡ listed.old) }
+{
+    if have_changed {
+        *listed = None;
+    }
+}
+
+/// The node whose leaf set it is, and then the leaves in leaf order.
+fn members_of(alloc: Global, leafs: &LeafSet) -> Result<Ids, OutOfMemory>
+    ensures { IfOk result (λ ids. ids ≡ members_in leafs.now) }
+{
+    let mut ids = IdsBuilder::new();
+    ids.append(leafs.me());
+    leafs.copy_to(&mut ids);
+    ids.finish(alloc)
 }

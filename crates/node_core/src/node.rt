@@ -22,6 +22,7 @@ use node_parts::{Change, Node as Parts, Prepared};
 use ring_math::{FileId, Id, OutOfMemory};
 use std::alloc::Global;
 use std::marker::Model;
+use wire_msg::Message;
 
 /// A node of the overlay. It is seen as its parts, and `Stands` says which states they stand for: those that differ only in
 /// what was learnt and neither the leaves nor the prefix table show.
@@ -111,6 +112,9 @@ impl Node {
         ensures sound { (s : State) → Stands self.old s → IsSound (step_of s (plain_input input.now)).state }
     {
         input_law(input);
+        if is_probe(input) && self.parts.is_ready() {
+            self.parts.list_members(alloc)?;
+        }
         let prepared = plan(&self.parts, alloc, input)?;
         self.parts.make_room(&prepared.change)?;
         Ok(prepared)
@@ -143,5 +147,13 @@ impl Node {
         } = self.prepare(alloc, input)?;
         self.commit(change);
         Ok(Output { messages, notes })
+    }
+}
+
+/// Whether it is a Probe. A node is probed often before its leaves change, and tells each time who they are.
+fn is_probe(input: &Input<'_>) -> bool {
+    match input {
+        Input::Message { message, .. } => matches!(message, Message::Probe { .. }),
+        _ => false,
     }
 }

@@ -110,10 +110,14 @@ impl Node {
     pub fn members(&self, alloc: Global) -> Result<Ids, OutOfMemory>
         ensures { (known : List ℕ) → Shows self.now known → IfOk result (λ ids. ids ≡ members (seen self.now known)) }
     {
-        let mut ids = IdsBuilder::new();
-        ids.push(self.me);
-        self.known.leafs().copy_to(&mut ids);
-        ids.finish(alloc)
+        self.known.members(alloc)
+    }
+
+    /// Lists these, unless they are: who asks for them before a leaf changes shares that list.
+    pub fn list_members(&mut self, alloc: Global) -> Result<(), OutOfMemory>
+        ensures { self.new ≡ self.old }
+    {
+        self.known.list_members(alloc)
     }
 }
 

@@ -20,7 +20,7 @@ pub enum CompactEvent {
 }
 
 impl CompactEvent {
-    /// The same event.
+    /// The same event. It is refused for lack of memory where it is to be boxed and no box can be had.
     pub fn of(event: Event, alloc: Global) -> Result<CompactEvent, OutOfMemory>
         ensures { IfOk result (λ kept. event_kept kept ≡ event) }
     {
@@ -149,7 +149,7 @@ fn between<T>(items: &[T], start: usize, end: usize) -> &[T]
 
 /// Adds each message, in an envelope from this sender, with this stamp, to a list that has room for them. The messages are moved,
 /// and not copied. They are taken from the end of their list, which is turned round for that: so each is read where it lies, and
-/// goes by no other place.
+/// goes by one place on its way.
 pub fn send_all(sent: &mut Vec<Envelope>, stamp: u64, sender: Id, mut messages: Vec<Outgoing>)
     requires { vec_len sent.old + vec_len messages ≤ vec_capacity sent.old }
     ensures items { map plain_envelope sent.new.items ≡ map plain_envelope sent.old.items ++ map (enveloped stamp sender) (map plain_sent messages.items) }

@@ -18,6 +18,7 @@ pub(crate) enum CompactEvent {
 }
 
 impl CompactEvent {
+    /// The same event. It is refused for lack of memory where it is to be boxed and no box can be had.
     pub(crate) fn of(event: GroupEvent, alloc: Global) -> Result<CompactEvent, OutOfMemory>
         ensures { IfOk result (λ kept. event_kept kept ≡ event) }
     {

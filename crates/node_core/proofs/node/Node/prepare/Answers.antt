@@ -15,3 +15,7 @@ returns-in_err-prepared-clause-sound c = λ s st.
 pub returns-in_err-make_room-clause-sound : goal.returns-in_err-make_room-clause-sound
 returns-in_err-make_room-clause-sound c = λ s st.
     step_sound s (plain_input c.args.input.now) (subst IsSound (sym st.same) st.shows.sound) c.input_law.ensures
+
+pub returns-in_err-list_members-clause-sound : goal.returns-in_err-list_members-clause-sound
+returns-in_err-list_members-clause-sound c = λ s st.
+    step_sound s (plain_input c.args.input.now) (subst IsSound (sym st.same) st.shows.sound) c.input_law.ensures
