@@ -2,3 +2,4 @@ pub mod Places
 pub mod Learning
 pub mod Found
 pub mod Neighbours
+pub mod Beyond

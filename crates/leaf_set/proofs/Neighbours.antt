@@ -72,7 +72,7 @@ near me key z b a Counterclockwise hm hk hz hb ha h =
 
 -- ---- in a list
 
-rises_at : (f : ℕ → ℕ) (xs : List ℕ) (i j : ℕ) → Rises f xs → i ≤ j → j < length xs → f (get_or xs i 0) ≤ f (get_or xs j 0)
+pub rises_at : (f : ℕ → ℕ) (xs : List ℕ) (i j : ℕ) → Rises f xs → i ≤ j → j < length xs → f (get_or xs i 0) ≤ f (get_or xs j 0)
 rises_at f [] i j h le lt = absurd (omega arith)
 rises_at f (x ∷ xs) zero zero h le lt = omega arith
 rises_at f (x ∷ xs) zero (suc j) h le lt = All-get_or (λ z. f x ≤ f z) xs j 0 (omega arith) h.0

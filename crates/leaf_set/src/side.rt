@@ -1,6 +1,6 @@
 //! One side of a leaf set: the nearest [`LEAVES_PER_SIDE`] identifiers, going one way round the circle.
 
-ghost use Rattle.std.specs.Prelude.{◌≡◌, ◌<◌, ◌≤◌, ◌+◌, ◌-◌, ◌^◌, ◌++◌, All, ◌∷◌, not, filter, [], ℕ, List, length, take, nat_le, nat_lt, false, slice_get};
+ghost use Rattle.std.specs.Prelude.{◌≡◌, ◌<◌, ◌≤◌, ◌+◌, ◌-◌, ◌^◌, ◌++◌, All, ◌∷◌, not, filter, [], ℕ, List, length, take, nat_le, nat_lt, false, slice_get, IsTrue};
 ghost use Rattle.std.specs.Prelude.{MatchOption, Contains};
 ghost use Rattle.std.specs.Bool.{OnFalse};
 ghost use Rattle.std.specs.List.{position_or_len};
@@ -9,7 +9,7 @@ ghost use Rattle.ring_math.specs.Members.{IsClosest};
 ghost use Rattle.ring_math.specs.Sides.{placed, is_in};
 ghost use Rattle.leaf_set.specs.Leaves.{Improves};
 ghost use Rattle.leaf_set.specs.Beside.{IsBefore, IsFrom};
-ghost use Rattle.leaf_set.specs.Rising.{Rises};
+ghost use Rattle.leaf_set.specs.Rising.{Rises, back};
 ghost use Rattle.leaf_set.specs.Room.{put_in as put_in_of};
 
 use ring_math::{
@@ -177,13 +177,12 @@ impl Side {
 
     /// Appends the identifiers, the nearest first.
     pub(crate) fn copy_to(&self, out: &mut IdsBuilder)
-        requires { length out.old ≤ 1 }
+        requires room { length out.old ≤ 1 }
+        requires in_ring { All (λ z. z < 2 ^ 128) self.now }
         ensures limit { length self.now ≤ LEAVES_PER_SIDE }
         ensures copied { out.new ≡ out.old ++ self.now }
     {
-        for id in self.as_slice() {
-            out.append(*id);
-        }
+        out.extend(self.as_slice());
     }
 
     /// How many of these are not in another side, which goes that way.
@@ -201,6 +200,21 @@ impl Side {
         count
     }
 
+    /// Whether each of these, which go the other way round, is farther that way round than so far: the first and the last are, and
+    /// all others lie between these two.
+    fn is_beyond(&self, reach: u128, me: Id, direction: Direction) -> bool
+        requires rises { Rises (back me direction) self.now }
+        requires in_ring { All (λ z. z < 2 ^ 128) self.now }
+        ensures { IsTrue result → All (λ y. reach < far me direction y) self.now }
+    {
+        let ids = self.as_slice();
+        if ids.is_empty() {
+            return true;
+        }
+        let (first, last) = (ids[0], ids[ids.len() - 1]);
+        distance(me, direction, first) > reach && distance(me, direction, last) > reach
+    }
+
     /// Appends those that are not in another side, which goes that way, the nearest first.
     pub(crate) fn copy_besides(
         &self,
@@ -211,9 +225,16 @@ impl Side {
     )
         requires room { length out.old ≤ LEAVES_PER_SIDE + 1 }
         requires rises { Rises (far me direction) other.now }
+        requires back { Rises (back me direction) self.now }
+        requires in_ring { All (λ z. z < 2 ^ 128) self.now }
         ensures { out.new ≡ out.old ++ filter (λ y. not (is_in other.now y)) self.now }
     {
         let reach = other.reach(me, direction);
+        // No identifier is on both sides in most rings.
+        if self.is_beyond(reach, me, direction) {
+            out.extend(self.as_slice());
+            return;
+        }
         for id in self.as_slice() {
             if !other.holds_within(reach, me, direction, *id) {
                 out.append(*id);

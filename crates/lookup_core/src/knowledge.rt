@@ -93,7 +93,7 @@ impl Knowledge {
         &self.table
     }
 
-    /// The node and then its leaves in leaf order.
+    /// The node and then its leaves in leaf order. The only error is that memory for the list was refused.
     pub fn members(&self, alloc: Global) -> Result<Ids, OutOfMemory>
         ensures { IfOk result (λ ids. ids ≡ members_in self.now.leafs) }
     {
@@ -103,7 +103,8 @@ impl Knowledge {
         }
     }
 
-    /// Lists these, unless they are. Who asks for them before a leaf changes shares that list.
+    /// Lists these, unless they are. Who asks for them before a leaf changes shares that list. The only error is that memory for it
+    /// was refused, and then none is listed.
     pub fn list_members(&mut self, alloc: Global) -> Result<(), OutOfMemory>
         ensures { self.new ≡ self.old }
     {

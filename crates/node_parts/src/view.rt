@@ -106,14 +106,15 @@ impl Node {
         leaves_of(alloc, self.known.leafs())
     }
 
-    /// The node and then its leaves in leaf order.
+    /// The node and then its leaves in leaf order. The only error is that memory for the list was refused.
     pub fn members(&self, alloc: Global) -> Result<Ids, OutOfMemory>
         ensures { (known : List ℕ) → Shows self.now known → IfOk result (λ ids. ids ≡ members (seen self.now known)) }
     {
         self.known.members(alloc)
     }
 
-    /// Lists these, unless they are: who asks for them before a leaf changes shares that list.
+    /// Lists these, unless they are: who asks for them before a leaf changes shares that list. The only error is that memory for it
+    /// was refused, and then none is listed.
     pub fn list_members(&mut self, alloc: Global) -> Result<(), OutOfMemory>
         ensures { self.new ≡ self.old }
     {

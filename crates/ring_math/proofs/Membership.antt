@@ -58,10 +58,11 @@ Contains-is_in (x ∷ xs) y e =
       | inr f ↦ Contains-there x xs y (Contains-is_in xs y f)
     ]
 
+-- more identifiers at the end
+pub InRing-append : (xs ys : List ℕ) → InRing (Contains xs) → InRing (Contains ys) → InRing (Contains (xs ++ ys))
+InRing-append xs ys hx hy z c = elim (Contains-append_cases xs ys z c) [ inl d ↦ hx z d | inr d ↦ hy z d ]
+
 -- one more identifier at the end
 pub InRing-more : (xs : List ℕ) (x : ℕ) → InRing (Contains xs) → x < 2 ^ 128 → InRing (Contains (xs ++ x ∷ []))
-InRing-more xs x range hx z c =
-    elim (Contains-append_cases xs (x ∷ []) z c) [
-      | inl d ↦ range z d
-      | inr d ↦ elim (Contains-cases x [] z d) [ inl e ↦ rw e hx | inr f ↦ absurd (Contains-none z f) ]
-    ]
+InRing-more xs x range hx =
+    InRing-append xs (x ∷ []) range (λ z d. elim (Contains-cases x [] z d) [ inl e ↦ rw e hx | inr f ↦ absurd (Contains-none z f) ])

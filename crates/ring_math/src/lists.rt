@@ -1,7 +1,7 @@
 //! Lists with a limit: bytes of a file, identifiers and files that one message names. A list that is done is shared: a
 //! copy is one owner more of the same memory.
 
-ghost use Rattle.std.specs.Prelude.{◌≡◌, ◌<◌, ◌≤◌, ◌++◌, ◌∷◌, [], ◌↔◌, IsTrue, length, IfOk, IfErr, Err, All, Contains};
+ghost use Rattle.std.specs.Prelude.{◌≡◌, ◌<◌, ◌≤◌, ◌+◌, ◌++◌, ◌∷◌, [], ◌↔◌, IsTrue, length, IfOk, IfErr, Err, All, Contains};
 ghost use Rattle.ring_math.specs.Members.{InRing};
 ghost use Rattle.std.specs.Bool.{OnTrue, OnFalse};
 
@@ -145,6 +145,19 @@ impl IdsBuilder {
         ensures { self.new ≡ self.old ++ id ∷ [] }
     {
         let _pushed = self.push(id);
+    }
+
+    /// Adds these at the end, in their order, where there is room for all. It takes no memory, and is faster than adding one after
+    /// another.
+    pub fn extend(&mut self, ids: &[Id])
+        requires room { length self.old + length ids.now ≤ MOST_MEMBERS }
+        requires in_ring { InRing (Contains ids.now) }
+        ensures { self.new ≡ self.old ++ ids.now }
+    {
+        let end = self.len + ids.len();
+        let room = &mut self.ids[..];
+        room[self.len..end].copy_from_slice(ids);
+        self.len = end;
     }
 
     /// The identifiers, in the order in which they were added.
