@@ -5,6 +5,7 @@ ghost use Rattle.ring_math.specs.Names.{Id};
 ghost use Rattle.std.specs.List.{AllZip};
 ghost use Rattle.wire_msg.specs.Words.{plain_envelope};
 ghost use Rattle.overlay_rules.specs.Flat.{event_kept};
+ghost use Rattle.overlay_rules.specs.declared.entry.Event.TheVariants as Event;
 ghost use Rattle.overlay_rules.specs.Record.{Legal, all_differ, sent_in};
 ghost use Rattle.weave_laws.specs.AtNode.{IsPartOf};
 ghost use Rattle.weave_laws.specs.Cells.{Comes, nodes_of};
@@ -28,9 +29,9 @@ use crate::stop::{Stop, fault_at};
 use crate::strand::{Strand, lent_by};
 use node_cell::{CellInput, NodeCell};
 use overlay_rules::{CompactEvent, Entries, Event, Record};
-use ring_math::OutOfMemory;
+use ring_math::{Id, OutOfMemory};
 use std::alloc::Global;
-use wire_msg::{Envelope, Note};
+use wire_msg::{Command, Envelope, Note};
 
 /// All entries of the cells by stamp, and then by node. A message that came in is numbered as the first equal one that was sent.
 /// `Stray` comes exactly where one was sent in no history, or `OutOfMemory` in its place. Where exactly one cell was made as the
@@ -184,20 +185,12 @@ impl Weaving {
         let node = act.node(strands);
         // What is gone would be as noise; none of these is.
         let Some(entry) = act.entry(strands) else {
-            return compact(alloc, Event::Noise { node });
+            return noise_of(alloc, node);
         };
         match &entry.input {
-            CellInput::Command { number, command } => {
-                let command = command.copy(alloc)?;
-                let event = Event::Command {
-                    node,
-                    number: *number,
-                    command,
-                };
-                compact(alloc, event)
-            }
+            CellInput::Command { number, command } => command_of(alloc, node, *number, command),
             CellInput::Comes(envelope) => self.delivery_of(envelope),
-            CellInput::Noise => compact(alloc, Event::Noise { node }),
+            CellInput::Noise => noise_of(alloc, node),
         }
     }
 
@@ -225,13 +218,31 @@ impl Weaving {
     }
 }
 
-/// The same event in little room. Few are made by it, since most events deliver a message.
+// Most events deliver a message. The others are made by calls of their own, since a call clears its locals as it begins, and these
+// have large ones.
+
+/// The event that a command of the node's user becomes.
 #[inline(never)]
-fn compact(alloc: Global, event: Event) -> Result<CompactEvent, Stop>
-    ensures ok { IfOk result (λ kept. event_kept kept ≡ event) }
+fn command_of(alloc: Global, node: Id, number: u64, command: &Command) -> Result<CompactEvent, Stop>
+    ensures ok { IfOk result (λ kept. event_kept kept ≡ Event.Command node number command.now) }
     ensures err { IfErr result (λ stop. stop ≡ Stop.OutOfMemory) }
 {
+    let command = command.copy(alloc)?;
+    let event = Event::Command {
+        node,
+        number,
+        command,
+    };
     Ok(CompactEvent::of(event, alloc)?)
+}
+
+/// The event that noise becomes.
+#[inline(never)]
+fn noise_of(alloc: Global, node: Id) -> Result<CompactEvent, Stop>
+    ensures ok { IfOk result (λ kept. event_kept kept ≡ Event.Noise node) }
+    ensures err { IfErr result (λ stop. stop ≡ Stop.OutOfMemory) }
+{
+    Ok(CompactEvent::of(Event::Noise { node }, alloc)?)
 }
 
 /// What an entry of one of the histories sent and noted comes into these lists, which are empty.

@@ -10,7 +10,7 @@ use Rattle.weave.specs.declared.fault.WeaveFault.{WeaveFault}
 use Rattle.weave.specs.ByStamp.{AreByStamp}
 use Rattle.weave.specs.Growing.{HasOneMore}
 use Rattle.weave.specs.Placed.{IsWithin, act_at, acts_in, placed, sent_by}
-use Rattle.weave.specs.Stops.{IsHaltAt, IsStopAt, StopsAt}
+use Rattle.weave.specs.Stops.{IsHaltAt, IsStopAt}
 use Rattle.weave.specs.declared.fault.WeaveFault.TheVariants as fault
 use Rattle.weave.specs.declared.stop.Stop.{Stop}
 use Rattle.weave.specs.declared.stop.Stop.TheVariants as halt
