@@ -17,3 +17,4 @@ pub mod Passing
 pub mod Passages
 pub mod Relaying
 pub mod Taking
+pub mod Tabling

@@ -1,5 +1,5 @@
 -- Where an envelope can stand among those by stamp and sender, in a list of things each of which is seen as one.
-use Rattle.std.proofs.Common.{◌≡◌, ◌≢◌, ◌<◌, ◌≤◌, ◌+◌, inl, inr, ℕ, zero, suc, true, false, Some, List, [], ◌∷◌, map, length, get_or, slice_get, Contains, Bor}
+use Rattle.std.proofs.Common.{◌≡◌, ◌≢◌, ◌<◌, ◌≤◌, inl, inr, ℕ, zero, suc, true, false, Some, List, [], ◌∷◌, map, length, get_or, slice_get, Contains, Bor}
 use Rattle.std.proofs.Common.{refl, sym, subst, ap, ◌∙◌, arith}
 use Rattle.std.proofs.lemmas.Bool.{cases_order}
 use Rattle.std.proofs.lemmas.Bool.Decides.{nat_tests}
@@ -74,13 +74,6 @@ module _ {A : Type 0} (f : A → Envelope) (xs : List A) (w : Envelope) where
         | inr (inl less) ↦ let n = s.none_behind place k u w less at e in cc
         | inr (inr more) ↦ absurd (omega arith)
       ]
-
--- where the last of the first envelopes is earlier, all of them are
-pub earlier_before : {A : Type 0} (f : A → Envelope) (xs : List A) (w : Envelope) (last : ℕ) (v : A) → AreByStamp (map f xs) → last < length xs →
-    v ≡ get_or xs last v → is_earlier (f v) w ≡ true → AllWithin (λ (u : A). is_earlier (f u) w ≡ true) xs 0 (last + 1)
-earlier_before f xs w last v s within is e k d ge lt =
-    let same : f (get_or xs last d) ≡ f v = let a = get_at f xs last d within in let b = get_at f xs last v within in cc in
-    partitioned f xs w s k last d (omega arith) within (subst (λ u. is_earlier u w ≡ true) (sym same) e)
 
 -- it is not among them if it stands at no place
 pub not_among : (vs : List Envelope) (w : Envelope) → ((k : ℕ) → slice_get vs k ≢ Some w) → Contains vs w → ⊥

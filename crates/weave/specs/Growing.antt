@@ -7,6 +7,7 @@ use Rattle.weave_laws.specs.Woven.{Act, IsEntryOf}
 use Rattle.weave.specs.declared.acts.Act.{Act as CodeAct}
 use Rattle.weave.specs.declared.weaving.Weaving.{Weaving}
 use Rattle.weave.specs.Placed.{IsWithin, act_at}
+use Rattle.weave.specs.Table.{AreSeen, IsTableOf}
 
 -- one more entry, the one that an entry of a history becomes
 pub record HasOneMore (act : Act) (before after : List Entry) : Type 0 where
@@ -18,6 +19,11 @@ pub record HasOneMore (act : Act) (before after : List Entry) : Type 0 where
 pub record IsEmptied (w : Weaving) : Type 0 where
   pub messages : w.messages.items ≡ []
   pub notes : w.notes.items ≡ []
+
+-- the table is that of all that was sent, and what was seen ahead tells of it
+pub record IsTabled (w : Weaving) : Type 0 where
+  pub table : IsTableOf w.starts (sent_in w.entries)
+  pub seen : AreSeen (sent_in w.entries) w.ahead
 
 -- the entries that stand elsewhere than this one are as before
 pub record KeepsOthers (a : CodeAct) (before after : List History) : Type 0 where

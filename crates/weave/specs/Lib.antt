@@ -12,3 +12,4 @@ pub mod Wanted
 pub mod Through
 pub mod Alike
 pub mod Relayed
+pub mod Table

@@ -3,11 +3,15 @@
 //! The entries of many histories lie far apart, and so do the messages of a record. What is looked at for the first time is waited
 //! for. So the next entries are looked at together, in short loops, none of which needs what another of its turns looks at: then
 //! much is waited for at once. A loop that has to choose by what it sees begins with what the loop before it has seen: a wrong
-//! guess of what it sees would else wait, too. No promise rests on this, as none does on `Starts`.
+//! guess of what it sees would else wait, too.
+
+ghost use Rattle.std.specs.Prelude.{◌≡◌, IfSome, List, None};
+ghost use Rattle.wire_msg.specs.Words.{Envelope as PlainEnvelope, plain_envelope};
+ghost use Rattle.weave.specs.Table.{AreSeen, HasNoneBefore, IsTableOf};
 
 use crate::acts::Act;
 use crate::search::low_half;
-use crate::starts::{Starts, Stretch};
+use crate::starts::{Starts, mark_of};
 use crate::strand::Strand;
 use node_cell::{CellEntry, CellInput};
 use ring_math::{Bytes, Id, Ids};
@@ -16,13 +20,12 @@ use wire_msg::{Envelope, Message, Note, Reply};
 /// How many entries are looked at together.
 pub(crate) const TOGETHER: usize = 32;
 
-/// The stamp and the sender of the message that an entry takes in, and where it may stand.
+/// The stamp and the mark of the message that an entry takes in, and where it may stand.
 #[derive(Clone, Copy)]
-struct Sight {
-    stamp: u64,
-    sender: Id,
-    near: Stretch,
-    guess: Option<usize>,
+pub(crate) struct Sight {
+    pub(crate) stamp: u64,
+    pub(crate) mark: u16,
+    pub(crate) guess: Option<usize>,
 }
 
 /// How much entries send and note.
@@ -35,7 +38,7 @@ pub(crate) struct Load {
 /// What so many entries take in.
 #[derive(Clone, Copy)]
 pub(crate) struct Ahead {
-    sights: [Sight; TOGETHER],
+    pub(crate) sights: [Sight; TOGETHER],
     /// What was seen last, in one number. Nothing is done with it; but what is not kept would not be looked at.
     seen: u64,
 }
@@ -52,11 +55,12 @@ impl Load {
 
 impl Sight {
     /// Nothing is taken in: no envelope has the last stamp.
-    fn none() -> Sight {
+    fn none() -> Sight
+        ensures { result.guess ≡ None }
+    {
         Sight {
             stamp: u64::MAX,
-            sender: Id(0),
-            near: Stretch { from: 0, upto: 0 },
+            mark: 0,
             guess: None,
         }
     }
@@ -66,25 +70,15 @@ impl Sight {
         let mut sight = Sight::none();
         if let CellInput::Comes(envelope) = &entry.input {
             sight.stamp = envelope.stamp;
-            sight.sender = envelope.sender;
+            sight.mark = mark_of(envelope);
         }
         sight
     }
 
-    /// Forgets a guess where no envelope of the stamp and the sender stands, or one of a later stamp before it. Answers what was seen.
-    fn check(&mut self, sent: &[Envelope]) -> u64 {
+    /// What is seen of the envelope that stands where it is guessed.
+    fn glimpse(&self, sent: &[Envelope]) -> u64 {
         let place = self.guess.unwrap_or(usize::MAX);
-        let (Some(before), Some(envelope)) = (sent.get(place.saturating_sub(1)), sent.get(place))
-        else {
-            self.guess = None;
-            return 0;
-        };
-        // All are looked at, whatever the first says.
-        let right = (before.stamp <= self.stamp)
-            & (envelope.stamp == self.stamp)
-            & (envelope.sender == self.sender);
-        self.guess = if right { Some(place) } else { None };
-        low_half(before.sender) ^ glimpse_of_envelope(envelope)
+        sent.get(place).map_or(0, glimpse_of_envelope)
     }
 
     /// What is seen of the list in the message that stands where it is guessed, with which the one that came is compared.
@@ -100,7 +94,9 @@ impl Sight {
 
 impl Ahead {
     /// Nothing was looked at yet.
-    pub(crate) fn new() -> Ahead {
+    pub(crate) fn new() -> Ahead
+        ensures { (vs : List PlainEnvelope) → AreSeen vs result }
+    {
         Ahead {
             sights: [Sight::none(); TOGETHER],
             seen: 0,
@@ -116,7 +112,9 @@ impl Ahead {
         strands: &[S],
         sent: &[Envelope],
         starts: &Starts,
-    ) -> Load {
+    ) -> Load
+        ensures { (vs : List PlainEnvelope) → IsTableOf starts.now vs → AreSeen vs self.new }
+    {
         let mut entries = [None; TOGETHER];
         for number in 0..TOGETHER {
             if let Some(act) = acts.get(number) {
@@ -126,10 +124,10 @@ impl Ahead {
         for entry in entries.iter() {
             self.seen ^= entry.map_or(0, glimpse_of_entry);
         }
-        let load = self.take_in(&entries, starts);
+        let load = self.take_in(&entries);
         // Before they are searched, which has to choose by each.
         for sight in self.sights.iter() {
-            self.seen ^= starts.glimpse(sight.near);
+            self.seen ^= starts.glimpse(sight.stamp);
         }
         for entry in entries.iter() {
             self.seen ^= entry.map_or(0, glimpse_of_firsts);
@@ -137,40 +135,56 @@ impl Ahead {
         for entry in entries.iter() {
             self.seen ^= entry.map_or(0, glimpse_of_lists);
         }
-        self.look_there(sent, starts);
+        self.guess_all(starts);
+        self.seen ^= self.glimpse_there(sent);
         load
     }
 
     /// What these entries take in, and how much they send and note.
-    fn take_in(&mut self, entries: &[Option<&CellEntry>; TOGETHER], starts: &Starts) -> Load {
+    fn take_in(&mut self, entries: &[Option<&CellEntry>; TOGETHER]) -> Load {
         let mut load = Load { sent: 0, noted: 0 };
         for (sight, entry) in self.sights.iter_mut().zip(entries.iter()) {
-            *sight = Sight::none();
+            *sight = entry.map_or(Sight::none(), Sight::of);
             if let Some(entry) = entry {
-                *sight = Sight::of(entry);
                 load = load.with(entry);
             }
-            sight.near = starts.near(sight.stamp);
         }
         load
     }
 
-    /// Guesses where what is taken in stands, and looks there.
-    fn look_there(&mut self, sent: &[Envelope], starts: &Starts) {
-        for sight in self.sights.iter_mut() {
-            sight.guess = starts.first_of(sight.near, sight.sender);
-        }
-        for sight in self.sights.iter_mut() {
-            self.seen ^= sight.check(sent);
-        }
-        for sight in self.sights.iter() {
-            self.seen ^= sight.glimpse_of_list(sent);
+    /// Guesses where what is taken in stands.
+    fn guess_all(&mut self, starts: &Starts)
+        ensures { (vs : List PlainEnvelope) → IsTableOf starts.now vs → AreSeen vs self.new }
+    {
+        for number in 0..TOGETHER {
+            let sight = self.sights[number];
+            self.sights[number].guess = starts.guess(sight.stamp, sight.mark);
         }
     }
 
-    /// Where the message may stand that is taken in by the entry of this number, one of those looked at last.
-    pub(crate) fn guess(&self, number: usize) -> Option<usize> {
-        self.sights[number % TOGETHER].guess
+    /// What is seen of what stands there.
+    fn glimpse_there(&self, sent: &[Envelope]) -> u64 {
+        let mut seen = 0;
+        for sight in self.sights.iter() {
+            seen ^= sight.glimpse(sent);
+        }
+        for sight in self.sights.iter() {
+            seen ^= sight.glimpse_of_list(sent);
+        }
+        seen
+    }
+
+    /// A place before which this envelope does not stand, if the entry of this number, one of those looked at last, takes it in and it
+    /// was guessed where.
+    pub(crate) fn guess(&self, number: usize, envelope: &Envelope) -> Option<usize>
+        ensures { (vs : List PlainEnvelope) → AreSeen vs self.now → IfSome result (HasNoneBefore vs (plain_envelope envelope.now)) }
+    {
+        let sight = self.sights[number % TOGETHER];
+        if sight.stamp == envelope.stamp && sight.mark == mark_of(envelope) {
+            sight.guess
+        } else {
+            None
+        }
     }
 }
 

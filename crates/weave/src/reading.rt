@@ -4,7 +4,8 @@ ghost use Rattle.std.specs.Prelude.{◌≡◌, ◌++◌, true, false, All, Conta
 ghost use Rattle.ring_math.specs.Names.{Id};
 ghost use Rattle.wire_msg.specs.Words.{plain_envelope};
 ghost use Rattle.node_cell.specs.Entries.{plain_history, plain_input_of};
-ghost use Rattle.weave.specs.ByStamp.{AreByStamp, envelopes_at, kept_in};
+ghost use Rattle.weave.specs.ByStamp.{envelopes_at, kept_in};
+ghost use Rattle.weave.specs.Table.{IsSearchable};
 ghost use Rattle.weave.specs.Cells.{histories};
 ghost use Rattle.weave.specs.Taken.{HasMissing, SentMissing, all_came, came_in, envelope_in};
 ghost use Rattle.weave.specs.Unread.{AllRead, IsSomeUnread};
@@ -32,7 +33,7 @@ pub fn all_read(alloc: Global, cells: &[NodeCell]) -> Result<bool, OutOfMemory>
 
 /// The messages that the histories took in, by stamp and then by sender.
 fn all_taken_sorted(alloc: Global, cells: &[NodeCell]) -> Result<Sorted<'_>, OutOfMemory>
-    ensures sorted { IfOk result (λ taken. AreByStamp (kept_in taken)) }
+    ensures sorted { IfOk result IsSearchable }
     ensures same { IfOk result (λ taken. HasSame (all_came (histories cells.now)) (kept_in taken)) }
 {
     let taken = all_taken(alloc, cells)?;
@@ -72,7 +73,7 @@ fn envelope_in(input: &CellInput) -> Option<&Envelope>
 
 /// Whether all that entries sent is among the messages taken.
 fn are_all_taken(history: &[CellEntry], taken: &Sorted<'_>) -> bool
-    requires { AreByStamp (kept_in taken.now) }
+    requires { IsSearchable taken.now }
     ensures yes { result ≡ true → All (λ e. All (Contains (kept_in taken.now)) e.sent) (plain_history history.now) }
     ensures no { result ≡ false → SentMissing (kept_in taken.now) (plain_history history.now) }
 {
@@ -85,7 +86,7 @@ fn are_all_taken(history: &[CellEntry], taken: &Sorted<'_>) -> bool
 }
 
 fn are_taken(sent: &[Envelope], taken: &Sorted<'_>) -> bool
-    requires { AreByStamp (kept_in taken.now) }
+    requires { IsSearchable taken.now }
     ensures yes { result ≡ true → All (Contains (kept_in taken.now)) (map plain_envelope sent.now) }
     ensures no { result ≡ false → HasMissing (kept_in taken.now) (map plain_envelope sent.now) }
 {

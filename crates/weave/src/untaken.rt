@@ -2,7 +2,8 @@
 
 ghost use Rattle.std.specs.Prelude.{◌≡◌, true, All, IfOk, IfSome, IfNone, map, option_to_list};
 ghost use Rattle.wire_msg.specs.Words.{plain_envelope};
-ghost use Rattle.weave.specs.ByStamp.{AreByStamp, envelopes_at, kept_in};
+ghost use Rattle.weave.specs.ByStamp.{envelopes_at, kept_in};
+ghost use Rattle.weave.specs.Table.{IsSearchable};
 ghost use Rattle.overlay_rules.specs.Record.{all_differ};
 ghost use Rattle.weave_laws.specs.Cells.{nodes_of};
 ghost use Rattle.weave.specs.Cells.{AreKept, HaveOwnNodes, histories};
@@ -59,7 +60,7 @@ fn taken_sorted<'a, S: Strand>(
     receiver: Id,
 ) -> Result<Sorted<'a>, OutOfMemory>
     requires { All (IsWithin (map S.history strands.now)) acts.now }
-    ensures sorted { IfOk result (λ taken. AreByStamp (kept_in taken)) }
+    ensures sorted { IfOk result IsSearchable }
     ensures same { IfOk result (λ taken. HasSame (taken_by receiver (acts_in (map (placed (map S.history strands.now)) acts.now))) (kept_in taken)) }
 {
     let taken = taken_by(alloc, acts, strands, receiver)?;
@@ -102,7 +103,7 @@ fn first_untaken<S: Strand>(
     taken: &Sorted<'_>,
     receiver: Id,
 ) -> Result<Option<Unread>, OutOfMemory>
-    requires sorted { AreByStamp (kept_in taken.now) }
+    requires sorted { IsSearchable taken.now }
     requires within { All (IsWithin (map S.history strands.now)) acts.now }
     ensures { IfOk result (IsFound (kept_in taken.now) receiver (map (placed (map S.history strands.now)) acts.now)) }
 {
@@ -124,7 +125,7 @@ fn first_sent_by<'a>(
     taken: &Sorted<'_>,
     receiver: Id,
 ) -> Option<&'a Envelope>
-    requires { AreByStamp (kept_in taken.now) }
+    requires { IsSearchable taken.now }
     ensures some { IfSome result (λ v. IsFirstWanted (kept_in taken.now) receiver (entry_seen entry.entry).sent (plain_envelope v.now)) }
     ensures none { IfNone result (HasNoWanted (kept_in taken.now) receiver (entry_seen entry.entry).sent) }
 {
@@ -132,7 +133,7 @@ fn first_sent_by<'a>(
 }
 
 fn first_sent<'a>(sent: &'a [Envelope], taken: &Sorted<'_>, receiver: Id) -> Option<&'a Envelope>
-    requires { AreByStamp (kept_in taken.now) }
+    requires { IsSearchable taken.now }
     ensures some { IfSome result (λ v. IsFirstWanted (kept_in taken.now) receiver (map plain_envelope sent.now) (plain_envelope v.now)) }
     ensures none { IfNone result (HasNoWanted (kept_in taken.now) receiver (map plain_envelope sent.now)) }
 {

@@ -1,6 +1,6 @@
 //! The woven record of cells.
 
-ghost use Rattle.std.specs.Prelude.{◌≡◌, [], true, IfOk, IfErr, OnOk, All, Contains, map};
+ghost use Rattle.std.specs.Prelude.{◌≡◌, [], true, IfOk, IfErr, IfSome, OnOk, All, Contains, map};
 ghost use Rattle.ring_math.specs.Names.{Id};
 ghost use Rattle.std.specs.List.{AllZip};
 ghost use Rattle.wire_msg.specs.Words.{plain_envelope};
@@ -13,9 +13,10 @@ ghost use Rattle.weave_laws.specs.Woven.{AreInOrder, IsEntryOf, IsEventOf, IsWov
 ghost use Rattle.weave.specs.ByStamp.{AreByStamp};
 ghost use Rattle.weave.specs.Cells.{AreKept, AreOneRing, HaveOwnNodes, histories, setting_of};
 ghost use Rattle.weave.specs.Follow.{FollowSendings};
-ghost use Rattle.weave.specs.Growing.{HasOneMore, IsEmptied, KeepsOthers};
+ghost use Rattle.weave.specs.Growing.{HasOneMore, IsEmptied, IsTabled, KeepsOthers};
 ghost use Rattle.weave.specs.Placed.{IsWithin, act_at, acts_in, placed, sent_by};
 ghost use Rattle.weave.specs.Stray.{IsDueTo};
+ghost use Rattle.weave.specs.Table.{HasNoneBefore};
 ghost use Rattle.weave.specs.Stops.{IsHaltAt, StopsAt};
 ghost use Rattle.weave.specs.declared.stop.Stop.TheVariants as Stop;
 
@@ -24,7 +25,7 @@ use crate::ahead::{Ahead, TOGETHER};
 use crate::fault::WeaveFault;
 use crate::given::given_by;
 use crate::search::place_among;
-use crate::starts::Starts;
+use crate::starts::{Starts, mark_of};
 use crate::stop::{Stop, fault_at};
 use crate::strand::{Strand, lent_by};
 use node_cell::{CellInput, NodeCell};
@@ -103,10 +104,10 @@ fn entries_of<S: Strand>(
 #[derive(Drop)]
 pub(crate) struct Weaving {
     pub(crate) entries: Entries,
-    /// Where messages of a stamp and a sender may stand among all that these sent.
-    starts: Starts,
+    /// Where a message may stand among all that these sent.
+    pub(crate) starts: Starts,
     /// Where what the next entries take in may stand.
-    ahead: Ahead,
+    pub(crate) ahead: Ahead,
     /// What the next entry sends and notes. Between two entries both are empty.
     pub(crate) messages: Vec<Envelope>,
     pub(crate) notes: Vec<Note>,
@@ -118,6 +119,7 @@ impl Weaving {
     fn new(alloc: Global, count: usize) -> Result<Weaving, OutOfMemory>
         ensures entries { IfOk result (λ weaving. weaving.entries ≡ []) }
         ensures emptied { IfOk result IsEmptied }
+        ensures tabled { IfOk result IsTabled }
     {
         Ok(Weaving {
             entries: Entries::with_room(alloc, count, count)?,
@@ -132,6 +134,7 @@ impl Weaving {
     fn look_ahead<S: Strand>(&mut self, acts: &[Act], strands: &[S]) -> Result<(), OutOfMemory>
         ensures entries { self.new.entries ≡ self.old.entries }
         ensures emptied { IsEmptied self.old → IsEmptied self.new }
+        ensures tabled { IsTabled self.old → IsTabled self.new }
     {
         let number = self.entries.len();
         if number % TOGETHER != 0 {
@@ -153,17 +156,18 @@ impl Weaving {
     fn add<S: Strand>(&mut self, alloc: Global, act: &Act, strands: &mut [S]) -> Result<(), Stop>
         requires sorted { AreByStamp (sent_in self.old.entries) }
         requires emptied { IsEmptied self.old }
+        requires tabled { IsTabled self.old }
         requires within { IsWithin (map S.history strands.old) act.now }
         ensures ok { OnOk result (HasOneMore (act_at (map S.history strands.old) act.now) self.old.entries self.new.entries) }
         ensures emptied { OnOk result (IsEmptied self.new) }
+        ensures tabled { OnOk result (IsTabled self.new) }
         ensures others { OnOk result (KeepsOthers act.now (map S.history strands.old) (map S.history strands.new)) }
         ensures err { IfErr result (IsHaltAt (sent_in self.old.entries) (placed (map S.history strands.old) act.now)) }
         ensures same { IfErr result (λ stop. stop ≡ Stop.Stray → map S.history strands.new ≡ map S.history strands.old) }
     {
-        let node = act.node(strands);
         let event = self.event_of(alloc, act, strands)?;
         hand_out(alloc, act, strands, &mut self.messages, &mut self.notes)?;
-        self.starts.add(act.stamp, node, self.messages.len())?;
+        self.starts.add_all(&self.messages)?;
         self.entries
             .append(event, &mut self.messages, &mut self.notes)?;
         Ok(())
@@ -177,6 +181,7 @@ impl Weaving {
         strands: &[S],
     ) -> Result<CompactEvent, Stop>
         requires sorted { AreByStamp (sent_in self.now.entries) }
+        requires tabled { IsTabled self.now }
         requires within { IsWithin (map S.history strands.now) act.now }
         ensures ok { let own = act_at (map S.history strands.now) act.now in
             IfOk result (λ event. IsEventOf (sent_in self.now.entries) own.node own.entry.input (event_kept event)) }
@@ -196,7 +201,8 @@ impl Weaving {
 
     /// The delivery of a message that came.
     fn delivery_of(&self, envelope: &Envelope) -> Result<CompactEvent, Stop>
-        requires { AreByStamp (sent_in self.now.entries) }
+        requires sorted { AreByStamp (sent_in self.now.entries) }
+        requires tabled { IsTabled self.now }
         ensures ok { (x : Id) →
             IfOk result (λ event. IsEventOf (sent_in self.now.entries) x (Comes (plain_envelope envelope.now)) (event_kept event)) }
         ensures err { IfErr result (λ stop. stop ≡ Stop.Stray × (Contains (sent_in self.now.entries) (plain_envelope envelope.now) → ⊥)) }
@@ -209,11 +215,15 @@ impl Weaving {
         }
     }
 
-    /// Where the envelope may stand that the next entry takes in. If it was not seen ahead, an entry just before may have sent it.
-    fn guess_of(&self, envelope: &Envelope) -> Option<usize> {
-        match self.ahead.guess(self.entries.len()) {
+    /// A place before which no envelope is equal to this one, which the next entry takes in. If it was not seen ahead, an entry just
+    /// before may have sent it.
+    fn guess_of(&self, envelope: &Envelope) -> Option<usize>
+        requires { IsTabled self.now }
+        ensures { IfSome result (HasNoneBefore (sent_in self.now.entries) (plain_envelope envelope.now)) }
+    {
+        match self.ahead.guess(self.entries.len(), envelope) {
             Some(place) => Some(place),
-            None => self.starts.guess(envelope.stamp, envelope.sender),
+            None => self.starts.guess(envelope.stamp, mark_of(envelope)),
         }
     }
 }

@@ -35,6 +35,7 @@ loop-act-init g c =
     record {
       became = subst (λ (es : List Entry). AllZip (IsEntryOf sent) [] es) (sym c.in_ok-weaving.ensures.entries) tt;
       emptied = c.in_ok-weaving.ensures.emptied;
+      tabled = c.in_ok-weaving.ensures.tabled;
       others = record { within = λ k d le lt. c.requires.within k d lt; same = λ k d le lt. refl };
     }
 
@@ -70,6 +71,7 @@ loop-act-preserved g c =
           (next-entry first acts i x c.loop-act.weaving.entries c.loop-act-test.true is c.loop-act.invariant.became one.entry
           one.becomes));
       emptied = c.in-Ok.ensures.emptied;
+      tabled = c.in-Ok.ensures.tabled;
       others = still_stand first now (map g.S.Strand.history c.add.new.strands) acts i x c.requires.order c.loop-act-test.true is
           c.in-Ok.ensures.others c.loop-act.invariant.others;
     }
